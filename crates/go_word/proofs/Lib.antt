@@ -1,0 +1,2 @@
+-- The lemmas on entries and logs.
+mod NeighbourLemmas

@@ -1,0 +1,3 @@
+-- The definitions of entries and logs.
+pub mod Log
+pub mod Neighbours

@@ -1,0 +1,11 @@
+-- What a log is: a list of entries, the oldest first.
+use Rattle.std.specs.Prelude.{ℕ, ◌==◌, Bool, List, filter}
+use Rattle.go_word.specs.declared.edge.Edge.{Edge}
+
+-- an entry leaves the vertex s
+abbrev pub leaves : ℕ → Edge → Bool
+leaves s e = e.src == s
+
+-- the entries of a log that leave s, in their order
+abbrev pub entries_from : ℕ → List Edge → List Edge
+entries_from s log = filter (leaves s) log

@@ -1,0 +1,8 @@
+//! The entries of a log of edges, and what a list of them means.
+#![tactic(auto)]
+
+mod edge;
+mod neighbours;
+
+pub use edge::Edge;
+pub use neighbours::neighbours_of;
