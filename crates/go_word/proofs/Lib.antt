@@ -1,2 +1,3 @@
 -- The lemmas on entries and logs.
-mod NeighbourLemmas
+pub mod NeighbourLaws
+pub mod NeighbourLemmas

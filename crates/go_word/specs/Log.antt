@@ -1,5 +1,5 @@
 -- What a log is: a list of entries, the oldest first.
-use Rattle.std.specs.Prelude.{ℕ, ◌==◌, Bool, List, filter}
+use Rattle.std.specs.Prelude.{◌≡◌, ℕ, ◌==◌, Bool, false, List, filter, All}
 use Rattle.go_word.specs.declared.edge.Edge.{Edge}
 
 -- an entry leaves the vertex s
@@ -9,3 +9,7 @@ leaves s e = e.src == s
 -- the entries of a log that leave s, in their order
 abbrev pub entries_from : ℕ → List Edge → List Edge
 entries_from s log = filter (leaves s) log
+
+-- a log has additions alone
+abbrev pub IsOfAdditions : List Edge → Type 0
+IsOfAdditions log = All (λ e. e.del ≡ false) log

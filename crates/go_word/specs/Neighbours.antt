@@ -1,5 +1,5 @@
 -- The neighbours of a vertex after a log.
-use Rattle.std.specs.Prelude.{ℕ, ◌==◌, if◌then◌else◌, List, [], ◌∷◌, ◌++◌, fold}
+use Rattle.std.specs.Prelude.{ℕ, ◌==◌, if◌then◌else◌, List, [], ◌∷◌, ◌++◌, fold, count_by}
 use Rattle.go_word.specs.declared.edge.Edge.{Edge}
 use Rattle.go_word.specs.Log.{leaves}
 
@@ -15,3 +15,7 @@ after_entry s before e = if leaves s e then (if e.del then without_first e.dst b
 -- the neighbours of s after the entries of a log, one by one
 abbrev pub neighbours : List Edge → ℕ → List ℕ
 neighbours log s = fold (after_entry s) [] log
+
+-- how often a vertex stands in a list
+abbrev pub copies : ℕ → List ℕ → ℕ
+copies x xs = count_by (λ v. v == x) xs

@@ -2,7 +2,9 @@
 #![tactic(auto)]
 
 mod edge;
+mod laws;
 mod neighbours;
 
 pub use edge::Edge;
+pub use laws::neighbours_laws;
 pub use neighbours::neighbours_of;
