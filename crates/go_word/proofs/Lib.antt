@@ -1,3 +1,4 @@
--- The lemmas on entries and logs.
+-- The lemmas on entries, logs and words.
 pub mod NeighbourLaws
 pub mod NeighbourLemmas
+pub mod WordLaws

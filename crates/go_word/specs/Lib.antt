@@ -1,3 +1,4 @@
--- The definitions of entries and logs.
+-- The definitions of entries, logs and words.
 pub mod Log
 pub mod Neighbours
+pub mod Word

@@ -4,7 +4,14 @@
 mod edge;
 mod laws;
 mod neighbours;
+mod raw;
+mod word;
 
 pub use edge::Edge;
 pub use laws::neighbours_laws;
 pub use neighbours::neighbours_of;
+pub use raw::raw_of;
+pub use word::{ID_LIMIT, blank, decode, encode, matched, plain, read_plain};
+
+#[cfg(test)]
+mod tests;
