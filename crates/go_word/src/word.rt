@@ -57,7 +57,7 @@ pub fn decode(w: u64) -> Edge
 
 /// Whether a word is of the lap of the position `p`, in a ring of `n` slots.
 ///
-/// It can't tell laps of which one is an even number of laps after the other.
+/// Laps that are an even number apart look the same, and those beside each other don't.
 #[tactic(auto, unfolding(crate::specs::Word::is_matched))]
 pub fn matched(w: u64, p: u64, n: u64) -> bool
     requires { 0 < n }
