@@ -1,0 +1,5 @@
+-- The definitions that the contracts of this crate cite.
+pub mod Line
+pub mod Word
+pub mod Number
+pub mod FaultKind
