@@ -3,3 +3,4 @@ pub mod Line
 pub mod Word
 pub mod Number
 pub mod FaultKind
+pub mod Causes
