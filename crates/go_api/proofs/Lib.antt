@@ -1,0 +1,2 @@
+-- The lemmas on positions and logs.
+pub mod AloneLemmas

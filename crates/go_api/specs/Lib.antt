@@ -1,0 +1,3 @@
+-- What the sessions of a store agree on.
+pub mod Laid
+pub mod Alone
