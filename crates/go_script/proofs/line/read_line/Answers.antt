@@ -1,0 +1,12 @@
+-- A line is read as its first words are.
+use Rattle.std.proofs.Common.{ap, ◌∙◌, List, ℕ}
+use Rattle.go_text.specs.Word.{words}
+use Rattle.go_script.specs.Grammar.{line_of}
+use Rattle.go_script.proofs.GrammarLemmas.{line_of-take}
+use Rattle.go_script.proofs.line.read_line.Goals as goal
+
+pub returns-clause-exact : goal.returns-clause-exact
+returns-clause-exact c = λ before tells.
+    c.read_words.ensures.exact before tells
+    ∙ ap (λ (ws : List (List ℕ)). line_of c.args.vertices before ws) (c.as_slice.ensures ∙ c.words_of.ensures)
+    ∙ line_of-take c.args.vertices before (words c.args.line.now)

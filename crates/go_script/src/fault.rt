@@ -1,0 +1,23 @@
+// Why a script isn't read.
+ghost use Rattle.std.specs.Prelude.{◌≡◌};
+ghost use Rattle.go_script.specs.declared.fault.ScriptFault.TheVariants.{Memory};
+
+use go_text::FaultKind;
+use std::alloc::AllocError;
+
+/// Why a text is no script.
+#[derive(Clone, Copy, Debug, PartialEq, Eq)]
+pub enum ScriptFault {
+    /// The first line with a fault, counted from 1, and the kind of its first fault.
+    Line { line: u64, kind: FaultKind },
+    /// There isn't enough memory.
+    Memory,
+}
+
+impl From<AllocError> for ScriptFault {
+    ghost from_gives = { λ _ fault. fault ≡ Memory };
+
+    fn from(_error: AllocError) -> ScriptFault {
+        ScriptFault::Memory
+    }
+}

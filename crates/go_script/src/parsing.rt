@@ -1,0 +1,41 @@
+// A whole text, read as a script.
+ghost use Rattle.std.specs.Prelude.{IfOk};
+ghost use Rattle.go_script.specs.Grammar.{Reads};
+ghost use Rattle.go_script.specs.Places.{IsWithin, commands_of};
+
+use crate::fault::ScriptFault;
+use crate::line::read_line;
+use crate::places::Places;
+use crate::script::Script;
+use crate::step::Step;
+use go_text::next_line;
+use std::alloc::Global;
+
+/// The script that a text writes over the vertices below `v`, or the first line with a fault.
+///
+/// One pass over the text. Memory is taken for the commands alone.
+pub fn parse(alloc: Global, text: &[u8], v: u32) -> Result<Script, ScriptFault>
+    ensures exact { Reads v text.now result }
+    ensures within { IfOk result (λ script. IsWithin v (commands_of script)) }
+{
+    let mut script = Script::new(alloc);
+    let mut places = Places::new();
+    let mut number = 0;
+    let mut from = 0;
+    while let Some(place) = next_line(text, from) {
+        number += 1;
+        match read_line(&text[place.start..place.stop], v, &places) {
+            Ok(None) => {}
+            Ok(Some(command)) => {
+                script.push(Step {
+                    line: number,
+                    command,
+                })?;
+                places.take(&command);
+            }
+            Err(kind) => return Err(ScriptFault::Line { line: number, kind }),
+        }
+        from = place.next;
+    }
+    Ok(script)
+}
