@@ -1,0 +1,4 @@
+-- The lemmas on sessions.
+mod IndexLemmas
+mod ProgressLemmas
+mod WritingLemmas
