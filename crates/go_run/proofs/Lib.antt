@@ -1,0 +1,3 @@
+-- The lemmas on runs of the program.
+mod ReadingLemmas
+mod RunLemmas

@@ -1,0 +1,224 @@
+// Whole runs over a shelf and a sink in memory, at rows that were worked out by hand.
+
+use super::*;
+use go_io::{MemShelf, MemSink};
+use go_text::Text;
+use std::alloc::{AllocError, Global};
+use std::test::Fail;
+
+// What a run comes to: its status, as a number and its line, and what the sink has.
+#[derive(Drop)]
+struct Outcome {
+    number: u8,
+    line: Vec<u8>,
+    sink: MemSink,
+}
+
+// The words of a command line.
+fn words_of(alloc: Global, words: &[&str]) -> Result<Vec<Text>, AllocError> {
+    let mut list = Vec::new(alloc);
+    for word in words {
+        list.push(Text::of(alloc, word)?)?;
+    }
+    Ok(list)
+}
+
+// A shelf with one text, `a.gs`.
+fn shelf_with(alloc: Global, script: &[u8]) -> Result<MemShelf, AllocError> {
+    let mut shelf = MemShelf::new(alloc);
+    shelf.add(&Text::of(alloc, "a.gs")?, script)?;
+    Ok(shelf)
+}
+
+// A run over these.
+fn run_over(
+    alloc: Global,
+    words: &[&str],
+    mut shelf: MemShelf,
+    mut sink: MemSink,
+) -> Result<Outcome, AllocError> {
+    let words = words_of(alloc, words)?;
+    let status = run(alloc, &words, &mut shelf, &mut sink);
+    let mut line = Vec::new(alloc);
+    message(&status, &mut line)?;
+    Ok(Outcome {
+        number: status.number(),
+        line,
+        sink,
+    })
+}
+
+// A run of one script, with ample room.
+fn outcome_of(alloc: Global, script: &[u8]) -> Result<Outcome, AllocError> {
+    let shelf = shelf_with(alloc, script)?;
+    let sink = MemSink::new(alloc, 4096, 4096)?;
+    run_over(alloc, &["drive", "a.gs"], shelf, sink)
+}
+
+#[test]
+fn valid_scripts_are_answered(rt: HostRuntime) -> Result<(), Fail> {
+    let cases: [(&[u8], &[u8]); 6] = [
+        (b"", b"session 1\n"),
+        (b"# nothing\r\n\t \r\n", b"session 1\n"),
+        (
+            b"add 3 5\nview 0\nneigh 0 3",
+            b"session 1\nadd 0\nview 0 at 1\nneigh 3: 5\n",
+        ),
+        (
+            b"add 1 2\r\n\tview  0 \r\nadd 1 3\nneigh 0 1\n",
+            b"session 1\nadd 0\nview 0 at 1\nadd 1\nneigh 1: 2\n",
+        ),
+        (b"add 65535 00000\n", b"session 1\nadd 0\n"),
+        (
+            b"view 3\nview 2\nneigh 3 0\n",
+            b"session 1\nview 3 at 0\nview 2 at 0\nneigh 0:\n",
+        ),
+    ];
+    for (script, want) in cases {
+        let outcome = outcome_of(rt.alloc(), script)?;
+        assert_eq!(rt; outcome.number, 0);
+        assert_eq!(rt; outcome.line.as_slice(), b"".as_slice());
+        assert_eq!(rt; outcome.sink.bytes(), want);
+    }
+    Ok(())
+}
+
+#[test]
+fn first_fault_of_a_script_is_told(rt: HostRuntime) -> Result<(), Fail> {
+    let cases: [(&[u8], &[u8]); 18] = [
+        (b"add 65536 0", b"graphone: a.gs: line 1: vertex\n"),
+        (b"view 0\nview 0\n", b"graphone: a.gs: line 2: place\n"),
+        (b"add 1\n", b"graphone: a.gs: line 1: count\n"),
+        (b"add 1 2 3\n", b"graphone: a.gs: line 1: count\n"),
+        (b"fly\n", b"graphone: a.gs: line 1: word\n"),
+        (b"del 1 2\n", b"graphone: a.gs: line 1: word\n"),
+        (b"add 1 x\n", b"graphone: a.gs: line 1: number\n"),
+        (
+            b"add 18446744073709551616 0\n",
+            b"graphone: a.gs: line 1: number\n",
+        ),
+        (b"view 4\n", b"graphone: a.gs: line 1: number\n"),
+        (b"add 65536 x\n", b"graphone: a.gs: line 1: vertex\n"),
+        (b"neigh 0 1\n", b"graphone: a.gs: line 1: place\n"),
+        (
+            b"# one\n\n \t\nadd 1 2\nfly",
+            b"graphone: a.gs: line 5: word\n",
+        ),
+        (b"add 1 2\r\nadd\r\n", b"graphone: a.gs: line 2: count\n"),
+        (b"add 1 2\r", b"graphone: a.gs: line 1: number\n"),
+        (b"\r", b"graphone: a.gs: line 1: word\n"),
+        (b"add 1 \xff\n", b"graphone: a.gs: line 1: number\n"),
+        (b"\0\n", b"graphone: a.gs: line 1: word\n"),
+        (
+            b"view 0\nadd 1 2\nneigh 1 9 9\nfly\n",
+            b"graphone: a.gs: line 3: count\n",
+        ),
+    ];
+    for (script, want) in cases {
+        let outcome = outcome_of(rt.alloc(), script)?;
+        assert_eq!(rt; outcome.number, 2);
+        assert_eq!(rt; outcome.line.as_slice(), want);
+        assert_eq!(rt; outcome.sink.bytes(), b"".as_slice());
+    }
+    Ok(())
+}
+
+#[test]
+fn other_words_are_refused(rt: HostRuntime) -> Result<(), Fail> {
+    let cases: [&[&str]; 7] = [
+        &[],
+        &["drive"],
+        &["drive", "-a.gs"],
+        &["drive", "-"],
+        &["fly", "a.gs"],
+        &["drive", "a.gs", "a.gs"],
+        &["a.gs", "drive"],
+    ];
+    let alloc = rt.alloc();
+    for words in cases {
+        let shelf = shelf_with(alloc, b"")?;
+        let outcome = run_over(alloc, words, shelf, MemSink::new(alloc, 9, 99)?)?;
+        assert_eq!(rt; outcome.number, 1);
+        assert_eq!(rt;
+            outcome.line.as_slice(),
+            b"graphone: bad arguments\n".as_slice()
+        );
+        assert_eq!(rt; outcome.sink.bytes(), b"".as_slice());
+    }
+    Ok(())
+}
+
+#[test]
+fn script_that_is_not_read_is_told(rt: HostRuntime) -> Result<(), Fail> {
+    let alloc = rt.alloc();
+    let sink = MemSink::new(alloc, 9, 99)?;
+    let missing = run_over(alloc, &["drive", "b.gs"], shelf_with(alloc, b"")?, sink)?;
+    assert_eq!(rt; missing.number, 3);
+    assert_eq!(rt;
+        missing.line.as_slice(),
+        b"graphone: b.gs: not there\n".as_slice()
+    );
+    let mut shelf = shelf_with(alloc, b"")?;
+    shelf.fail(0)?;
+    let sink = MemSink::new(alloc, 9, 99)?;
+    let failed = run_over(alloc, &["drive", "a.gs"], shelf, sink)?;
+    assert_eq!(rt; failed.number, 5);
+    assert_eq!(rt;
+        failed.line.as_slice(),
+        b"graphone: a.gs: read fault\n".as_slice()
+    );
+    assert_eq!(rt; failed.sink.bytes(), b"".as_slice());
+    Ok(())
+}
+
+#[test]
+fn script_of_one_byte_too_many_is_too_much(rt: HostRuntime) -> Result<(), Fail> {
+    let alloc = rt.alloc();
+    let long = vec![in alloc; b'\n'; 67_108_865]?;
+    let shelf = shelf_with(alloc, &long)?;
+    let outcome = run_over(
+        alloc,
+        &["drive", "a.gs"],
+        shelf,
+        MemSink::new(alloc, 9, 99)?,
+    )?;
+    assert_eq!(rt; outcome.number, 4);
+    assert_eq!(rt;
+        outcome.line.as_slice(),
+        b"graphone: too much: 67108865 of 67108864\n".as_slice()
+    );
+    Ok(())
+}
+
+#[test]
+fn sink_gets_all_or_the_first_bytes(rt: HostRuntime) -> Result<(), Fail> {
+    let alloc = rt.alloc();
+    let text = b"session 1\nadd 0\nview 0 at 1\nneigh 3: 5\n".as_slice();
+    let cases = [
+        (1, 99, 0, text),
+        (5, 40, 0, text),
+        (99, 39, 0, text),
+        (99, 38, 9, &text[..38]),
+        (5, 5, 9, b"sessi".as_slice()),
+        (99, 0, 9, b"".as_slice()),
+    ];
+    for (take, room, number, want) in cases {
+        let shelf = shelf_with(alloc, b"add 3 5\nview 0\nneigh 0 3\n")?;
+        let sink = MemSink::new(alloc, take, room)?;
+        let outcome = run_over(alloc, &["drive", "a.gs"], shelf, sink)?;
+        assert_eq!(rt; outcome.number, number);
+        assert_eq!(rt; outcome.sink.bytes(), want);
+    }
+    Ok(())
+}
+
+#[test]
+fn want_of_memory_has_its_line(rt: HostRuntime) -> Result<(), Fail> {
+    let mut line = Vec::new(rt.alloc());
+    message(&Status::Memory, &mut line)?;
+    assert_eq!(rt; line.as_slice(), b"graphone: out of memory\n".as_slice());
+    assert_eq!(rt; Status::Memory.number(), 10);
+    message(&Status::WriteFault, &mut line)?;
+    assert_eq!(rt; line.as_slice(), b"graphone: write fault\n".as_slice());
+    Ok(())
+}

@@ -1,0 +1,54 @@
+//! The program `graphone`: collects the words, makes the adapters of the outside, and hands them to the top call.
+#![tactic(auto)]
+
+use go_io::{FolderShelf, StdSink};
+use go_run::{Status, message, run};
+use go_text::Text;
+use std::alloc::{AllocError, Global};
+use std::env;
+use std::io::Write;
+use std::process::ExitCode;
+
+fn main(rt: HostRuntime) -> ExitCode {
+    let alloc = rt.alloc();
+    let status = match collect_words(&rt, alloc) {
+        Ok(words) => run(
+            alloc,
+            &words,
+            &mut FolderShelf::new(&rt),
+            &mut StdSink::new(&rt),
+        ),
+        Err(status) => status,
+    };
+    tell(&rt, alloc, &status);
+    ExitCode::from(status.number())
+}
+
+// The words of the command line, without the program's name. Words that aren't text are no words of the program.
+fn collect_words(rt: &HostRuntime, alloc: Global) -> Result<Vec<Text>, Status> {
+    let Ok(mut arguments) = env::args(rt) else {
+        return Err(Status::Words);
+    };
+    let _ = arguments.next();
+    let mut words = Vec::new(alloc);
+    for argument in arguments {
+        if add_word(alloc, argument.as_str(), &mut words).is_err() {
+            return Err(Status::Memory);
+        }
+    }
+    Ok(words)
+}
+
+// One more word.
+fn add_word(alloc: Global, word: &str, words: &mut Vec<Text>) -> Result<(), AllocError> {
+    words.push(Text::of(alloc, word)?)?;
+    Ok(())
+}
+
+// The error line of a status on standard error; where there is no memory for it, or it can't be written, the exit status alone tells.
+fn tell(rt: &HostRuntime, alloc: Global, status: &Status) {
+    let mut line = Vec::new(alloc);
+    if message(status, &mut line).is_ok() {
+        let _ = rt.stderr().write_all(&line);
+    }
+}
