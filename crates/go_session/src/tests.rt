@@ -2,18 +2,16 @@
 
 use super::*;
 use go_script::parse;
-use std::alloc::Global;
+use std::alloc::{AllocError, Global};
 use std::test::Fail;
 
-// The text of session 1 for a script over 8 vertices.
-fn text_for(rt: &HostRuntime, alloc: Global, script: &[u8]) -> Result<Vec<u8>, Fail> {
-    let script = match parse(alloc, script, 8) {
-        Ok(script) => script,
-        Err(fault) => panic!(rt; "no script: {fault:?}"),
-    };
-    let replies = answers(alloc, &script, 8)?;
+// The text of session 1 for a script over 8 vertices; none where it is no script.
+fn text_for(alloc: Global, script: &[u8]) -> Result<Vec<u8>, AllocError> {
     let mut text = Vec::new(alloc);
-    write(1, &replies, &mut text)?;
+    if let Ok(script) = parse(alloc, script, 8) {
+        let replies = answers(alloc, &script, 8)?;
+        write(1, &replies, &mut text)?;
+    }
     Ok(text)
 }
 
@@ -43,7 +41,7 @@ fn replies_are_those_of_the_rows(rt: HostRuntime) -> Result<(), Fail> {
         ),
     ];
     for (script, want) in cases {
-        let text = text_for(&rt, rt.alloc(), script)?;
+        let text = text_for(rt.alloc(), script)?;
         assert_eq!(rt; text.as_slice(), want);
     }
     Ok(())
