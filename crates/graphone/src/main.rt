@@ -6,7 +6,7 @@ use go_run::{Status, message, run};
 use go_text::Text;
 use std::alloc::{AllocError, Global};
 use std::env;
-use std::io::Write;
+use std::io::{ErrorKind, Write};
 use std::process::ExitCode;
 
 fn main(rt: HostRuntime) -> ExitCode {
@@ -26,8 +26,10 @@ fn main(rt: HostRuntime) -> ExitCode {
 
 // The words of the command line, without the program's name. Words that aren't text are no words of the program.
 fn collect_words(rt: &HostRuntime, alloc: Global) -> Result<Vec<Text>, Status> {
-    let Ok(mut arguments) = env::args(rt) else {
-        return Err(Status::Words);
+    let mut arguments = match env::args(rt) {
+        Ok(arguments) => arguments,
+        Err(error) if error.kind() == ErrorKind::OutOfMemory => return Err(Status::Memory),
+        Err(_) => return Err(Status::Words),
     };
     let _ = arguments.next();
     let mut words = Vec::new(alloc);
