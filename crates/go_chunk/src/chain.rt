@@ -1,0 +1,237 @@
+//! A chain of chunks: a list of words that grows without moving one.
+ghost use Rattle.std.specs.Prelude.{◌≡◌, ◌↔◌, ◌<◌, ◌≤◌, ◌+◌, ◌∷◌, ◌++◌, [], length, slice_index, take, IsTrue, IsOk, OnOk, OnErr};
+
+use crate::chunk::Chunk;
+use crate::classes::{FIRST, LAST, Piece};
+use crate::pieces::{copy_words, push_word, word_at};
+use std::alloc::{AllocError, Global};
+use std::marker::Model;
+
+/// A list of words with room in reserve.
+#[derive(Drop)]
+pub struct Chain {
+    first: Chunk<FIRST>,
+    later: Vec<Piece>,
+    len: usize,
+    spare: usize,
+}
+
+impl Model for Chain {
+    ghost use Rattle.go_chunk.specs.WordList.{WordList};
+
+    ghost Value = { WordList };
+
+    ghost use Rattle.std.specs.Prelude.{◌++◌};
+    ghost use Rattle.go_chunk.specs.Pieces.{words_of_all, IsKept};
+
+    ghost view = { λ chain. record {
+      words = chain.first ++ words_of_all chain.later.items;
+      spare = chain.spare;
+    } };
+
+    ghost invariant = { λ chain. IsKept chain.first chain.later.items chain.len chain.spare };
+}
+
+impl Chain {
+    /// A chain without words; it asks for no memory.
+    pub fn new(alloc: Global) -> Chain
+        ensures { result.words ≡ [] }
+    {
+        Chain {
+            first: Chunk::new(),
+            later: Vec::new(alloc),
+            len: 0,
+            spare: FIRST,
+        }
+    }
+
+    /// How many words the chain holds.
+    pub fn len(&self) -> usize
+        ensures { result ≡ length self.now.words }
+    {
+        self.len
+    }
+
+    /// Whether the chain holds no word.
+    pub fn is_empty(&self) -> bool
+        ensures { IsTrue result ↔ (length self.now.words ≡ 0) }
+    {
+        self.len == 0
+    }
+
+    /// How many pushes the chain takes before it has to reserve again.
+    pub fn spare(&self) -> usize
+        ensures { result ≡ self.now.spare }
+    {
+        self.spare
+    }
+
+    /// The word at place `i`, counted from 0.
+    pub fn get(&self, i: usize) -> u64
+        requires { i < length self.now.words }
+        ensures { result ≡ slice_index self.now.words i }
+    {
+        if i < FIRST {
+            self.first.get(i)
+        } else {
+            word_at(&self.later, self.len - FIRST, i - FIRST)
+        }
+    }
+
+    /// Makes room for `k` more words. Where memory is refused, the room that was made before stays.
+    pub fn reserve(&mut self, k: usize) -> Result<(), AllocError>
+        ensures room { OnOk result (k ≤ self.new.spare) }
+        ensures words { self.new.words ≡ self.old.words }
+        ensures never_less { self.old.spare ≤ self.new.spare }
+        ensures enough { k ≤ self.old.spare → IsOk result }
+    {
+        if k <= self.spare {
+            return Ok(());
+        }
+        self.reserve_table(k - self.spare)?;
+        while self.spare < k {
+            self.grow()?;
+        }
+        Ok(())
+    }
+
+    /// Makes room for the pieces of so many words, so that what no memory holds is refused at once.
+    fn reserve_table(&mut self, missing: usize) -> Result<(), AllocError>
+        ensures { self.new ≡ self.old }
+    {
+        let pieces = missing / LAST + 1;
+        if self.later.is_empty() {
+            // Most chains never have a second piece.
+            self.later.reserve_exact(pieces)
+        } else {
+            self.later.reserve(pieces)
+        }
+    }
+
+    /// Adds the next piece.
+    fn grow(&mut self) -> Result<(), AllocError>
+        ensures more { OnOk result (self.old.spare < self.new.spare) }
+        ensures words { self.new.words ≡ self.old.words }
+        ensures err { OnErr result (self.new ≡ self.old) }
+    {
+        let alloc = *self.later.allocator();
+        let piece = Piece::at(alloc, self.later.len())?;
+        let room = (self.len + self.spare)
+            .checked_add(piece.size())
+            .ok_or(AllocError)?;
+        self.later.push(piece)?;
+        self.spare = room - self.len;
+        Ok(())
+    }
+
+    /// Puts a word behind the others.
+    pub fn push(&mut self, word: u64)
+        requires { 1 ≤ self.old.spare }
+        ensures added { self.new.words ≡ self.old.words ++ word ∷ [] }
+        ensures falls { self.new.spare + 1 ≡ self.old.spare }
+    {
+        let len = self.len;
+        self.len += 1;
+        self.spare -= 1;
+        if len < FIRST {
+            self.first.push(word);
+        } else {
+            push_word(&mut self.later, len - FIRST, word);
+        }
+    }
+
+    /// Appends the first `k` words to `out`, which is as before where memory is refused.
+    pub fn copy_front(&self, k: usize, out: &mut Vec<u64>) -> Result<(), AllocError>
+        requires { k ≤ length self.now.words }
+        ensures ok { OnOk result (out.new.items ≡ out.old.items ++ take k self.now.words) }
+        ensures err { OnErr result (out.new.items ≡ out.old.items) }
+    {
+        let before = out.len();
+        let copied = self.copy_parts(k, out);
+        if copied.is_err() {
+            out.truncate(before);
+        }
+        copied
+    }
+
+    /// Appends the first `k` words to `out`, or fewer where memory is refused.
+    fn copy_parts(&self, k: usize, out: &mut Vec<u64>) -> Result<(), AllocError>
+        requires { k ≤ length self.now.words }
+        ensures ok { OnOk result (out.new.items ≡ out.old.items ++ take k self.now.words) }
+        ensures kept { take (length out.old.items) out.new.items ≡ out.old.items }
+    {
+        let in_first = k.min(self.first.len());
+        out.extend_from_slice(&self.first.words()[..in_first])?;
+        copy_words(&self.later, k - in_first, out)
+    }
+}
+
+#[cfg(test)]
+mod tests {
+    use super::*;
+    use std::test::Fail;
+
+    // The words from 0 on, reserved one at a time.
+    fn counted(rt: &HostRuntime, len: u64) -> Result<Chain, Fail> {
+        let mut chain = Chain::new(rt.alloc());
+        for word in 0..len {
+            chain.reserve(1)?;
+            chain.push(word);
+        }
+        Ok(chain)
+    }
+
+    #[test]
+    fn words_stand_on_both_sides_of_each_class_border(rt: HostRuntime) -> Result<(), Fail> {
+        let chain = counted(&rt, 597)?;
+        assert_eq!(rt; chain.len(), 597);
+        assert!(rt; !chain.is_empty());
+        for i in [0, 3, 4, 19, 20, 83, 84, 339, 340, 595, 596] {
+            assert!(rt; i < chain.len());
+            assert_eq!(rt; chain.get(i), i as u64, "at {i}");
+        }
+        Ok(())
+    }
+
+    #[test]
+    fn a_front_is_copied_behind_what_is_there(rt: HostRuntime) -> Result<(), Fail> {
+        let chain = counted(&rt, 597)?;
+        for k in [0, 1, 4, 5, 20, 84, 341, 597] {
+            assert!(rt; k <= chain.len());
+            let mut out = vec![in rt.alloc(); 1000u64]?;
+            chain.copy_front(k, &mut out)?;
+            assert_eq!(rt; out.len(), k + 1, "of {k}");
+            assert_eq!(rt; out.first(), Some(&1000), "of {k}");
+            if k > 0 {
+                assert_eq!(rt; out.last(), Some(&(k as u64 - 1)), "of {k}");
+            }
+        }
+        Ok(())
+    }
+
+    #[test]
+    fn what_was_reserved_at_once_needs_nothing_more(rt: HostRuntime) -> Result<(), Fail> {
+        let mut chain = Chain::new(rt.alloc());
+        assert!(rt; chain.is_empty());
+        chain.reserve(597)?;
+        let spare = chain.spare();
+        assert!(rt; spare >= 597);
+        for word in 0..597u64 {
+            assert!(rt; chain.spare() >= 1);
+            chain.push(word);
+        }
+        assert_eq!(rt; chain.spare(), spare - 597);
+        assert_eq!(rt; chain.len(), 597);
+        Ok(())
+    }
+
+    #[test]
+    fn more_than_any_memory_holds_is_refused_at_once(rt: HostRuntime) -> Result<(), Fail> {
+        let mut chain = counted(&rt, 5)?;
+        assert!(rt; chain.reserve(usize::MAX).is_err());
+        assert_eq!(rt; chain.len(), 5);
+        assert!(rt; 4 < chain.len());
+        assert_eq!(rt; chain.get(4), 4);
+        Ok(())
+    }
+}

@@ -1,0 +1,19 @@
+//! Lists of 64-bit words that grow by chunks, so that no word ever moves.
+//!
+//! Contracts see a `Chain` as a record of its words in order and of `spare`, the number of words that
+//! it takes before it has to ask for memory again; they see a `Chunk` as the list of its words.
+//! A caller may rely on this: after `reserve(k)` the next `k` pushes can't fail, each push adds its word
+//! at the end and lowers `spare` by one, and a refused `reserve` or `copy_front` leaves the list as it was.
+//! `get` and `push` take constant time, and `copy_front` appends whole chunks.
+//! A chain keeps its allocator, and an empty one has asked for no memory: its first chunk lies in it.
+//! No clause says in which chunks a chain is kept; the classes of the chunks stand in `classes.rt` alone.
+//! Left out: a word is never changed, taken out or handed on by reference.
+#![tactic(auto)]
+
+mod chain;
+mod chunk;
+mod classes;
+mod pieces;
+
+pub use chain::Chain;
+pub use chunk::Chunk;

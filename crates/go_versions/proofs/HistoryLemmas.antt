@@ -1,0 +1,152 @@
+-- The versions at or below a front are the first ones, and the last of them tells the count.
+use Rattle.std.proofs.Common.{◌≡◌, ◌≢◌, ℕ, zero, suc, ◌+◌, ◌-◌, ◌<◌, ◌≤◌, List, [], ◌∷◌, ◌++◌, length, get_or, take, drop, Bool, true, false, cond, refl, sym, ap, subst, ◌∙◌, arith, All, count_by, append-nil, drop-cons, length-drop, inl, inr}
+use Rattle.std.proofs.lemmas.Bool.{le-leb, leb-true, leb-false, cases_lt}
+use Rattle.std.proofs.lemmas.List.{take-append-drop, length-take-le, get_or-drop, take_at}
+use Rattle.std.proofs.lemmas.List.Elements.{filter-append}
+use Rattle.std.proofs.lemmas.List.Quantifiers.{all_pairs_push}
+use Rattle.std.proofs.lemmas.List.Sums.{length-filter}
+use Rattle.std.proofs.lemmas.Grind.{common_steps}
+use Rattle.std.specs.List.{filter}
+use Rattle.std.specs.List.Sorted.{IsPartitionPoint, IsNonDecreasingBy}
+use Rattle.go_versions.specs.Version.{Version}
+use Rattle.go_versions.specs.History.{reaches, last_count, count_at, IsBefore, IsRising}
+
+-- the first i versions are at or below the front, and the others above it
+abbrev pub PartsAt : ℕ → List Version → ℕ → Type 0
+PartsAt front vs i = IsPartitionPoint (λ v. v.front ≤ front) (λ v. front < v.front) vs i
+
+-- a version at or below the front reaches it
+reaches-le : (front : ℕ) (v : Version) → v.front ≤ front → reaches front v ≡ true
+reaches-le front v h = le-leb v.front front h
+
+-- a version above the front does not reach it
+reaches-lt : (front : ℕ) (v : Version) → front < v.front → reaches front v ≡ false
+reaches-lt front v h = grind (arith, common_steps)
+
+-- the versions that reach a front are the first ones
+pub filter-reaches : (front : ℕ) (vs : List Version) (i : ℕ) → i ≤ length vs → PartsAt front vs i → filter (reaches front) vs ≡ take i vs
+filter-reaches front [] zero short h = refl
+filter-reaches front [] (suc i) short h = absurd (omega arith)
+filter-reaches front (v ∷ vs) zero short h =
+    let above : reaches front v ≡ false = reaches-lt front v (h.1 0 v (omega arith) (omega arith)) in
+    let rest : filter (reaches front) vs ≡ take 0 vs = filter-reaches front vs 0 (omega arith) ((λ k d low high. absurd (omega arith)), λ k d low high. h.1 (suc k) d (omega arith) (omega arith)) in
+    rw above rest
+filter-reaches front (v ∷ vs) (suc i) short h =
+    let below : reaches front v ≡ true = reaches-le front v (h.0 0 v (omega arith) (omega arith)) in
+    let rest : filter (reaches front) vs ≡ take i vs = filter-reaches front vs i (omega arith) ((λ k d low high. h.0 (suc k) d (omega arith) (omega arith)), λ k d low high. h.1 (suc k) d (omega arith) (omega arith)) in
+    rw below (ap (λ l. v ∷ l) rest)
+
+-- the last of the first versions tells their count
+pub last_count-take : (vs : List Version) (i : ℕ) (d : Version) → i < length vs → last_count (take (suc i) vs) ≡ (get_or vs i d).count
+last_count-take [] i d short = absurd (omega arith)
+last_count-take (v ∷ vs) zero d short = refl
+last_count-take (v ∷ []) (suc i) d short = absurd (omega arith)
+last_count-take (v ∷ w ∷ vs) (suc i) d short = last_count-take (w ∷ vs) i d (omega arith)
+
+-- of two lists the later tells the count, where it has a version
+pub last_count-append : (xs : List Version) (y : Version) (ys : List Version) → last_count (xs ++ y ∷ ys) ≡ last_count (y ∷ ys)
+last_count-append [] y ys = refl
+last_count-append (x ∷ []) y ys = refl
+last_count-append (x ∷ w ∷ xs) y ys = last_count-append (w ∷ xs) y ys
+
+-- no version that reaches an earlier front is needed but the last
+pub count_at-drop : (front f : ℕ) (vs : List Version) (n : ℕ) (d : Version) → n < length vs → (get_or vs n d).front ≤ f → count_at (drop n vs) f ≡ count_at vs f
+count_at-drop front f vs n d short reached =
+    let split : drop n vs ≡ get_or vs n d ∷ drop (suc n) vs = drop-cons vs n d short in
+    let yes : reaches f (get_or vs n d) ≡ true = reaches-le f (get_or vs n d) reached in
+    let later : filter (reaches f) (drop n vs) ≡ get_or vs n d ∷ filter (reaches f) (drop (suc n) vs) = ap (filter (reaches f)) split ∙ ap (λ b. cond b (get_or vs n d ∷ filter (reaches f) (drop (suc n) vs)) (filter (reaches f) (drop (suc n) vs))) yes in
+    let whole : filter (reaches f) vs ≡ filter (reaches f) (take n vs) ++ filter (reaches f) (drop n vs) = ap (filter (reaches f)) (sym (take-append-drop n vs)) ∙ filter-append (reaches f) (take n vs) (drop n vs) in
+    ap last_count later
+    ∙ sym (last_count-append (filter (reaches f) (take n vs)) (get_or vs n d) (filter (reaches f) (drop (suc n) vs)))
+    ∙ ap (λ l. last_count (filter (reaches f) (take n vs) ++ l)) (sym later)
+    ∙ ap last_count (sym whole)
+
+-- one version more, where it is wanted
+last_count-push : (xs : List Version) (v : Version) (wanted : Bool) → last_count (xs ++ cond wanted (v ∷ []) []) ≡ cond wanted v.count (last_count xs)
+last_count-push xs v true = last_count-append xs v []
+last_count-push xs v false = ap last_count (append-nil xs)
+
+-- a version that is noted tells the count from its front on
+pub count_at-push : (vs : List Version) (v : Version) (f : ℕ) → count_at (vs ++ v ∷ []) f ≡ cond (reaches f v) v.count (count_at vs f)
+count_at-push vs v f = ap last_count (filter-append (reaches f) vs (v ∷ [])) ∙ last_count-push (filter (reaches f) vs) v (reaches f v)
+
+-- fronts that rise do not fall
+pub is_non_decreasing : (vs : List Version) → IsRising vs → IsNonDecreasingBy (λ v. v.front) vs
+is_non_decreasing vs h i j d le inside =
+    elim (cases_lt i j) [ inl lt ↦ (let before : IsBefore (get_or vs i d) (get_or vs j d) = h i j d lt inside in omega (arith, before.front)) | inr ge ↦ (let same : i ≡ j = omega arith in rw same (omega arith)) ]
+
+-- a later version keeps the versions rising
+pub IsRising-push : (vs : List Version) (v : Version) → IsRising vs → All (λ w. w.front < v.front) vs → All (λ w. w.count ≤ v.count) vs → IsRising (vs ++ v ∷ [])
+IsRising-push vs v h later more = all_pairs_push IsBefore vs v h (λ k d inside. record { front = later k d inside; count = more k d inside })
+
+-- what a test that is true of the first part and false of the rest says of the fronts
+pub PartsAt-from_tests : (front : ℕ) (vs : List Version) (i : ℕ) → IsPartitionPoint (λ v. reaches front v ≡ true) (λ v. reaches front v ≡ false) vs i → PartsAt front vs i
+PartsAt-from_tests front vs i h =
+    ((λ k d low high. leb-true (get_or vs k d).front front (h.0 k d low high)), λ k d low high. leb-false (get_or vs k d).front front (h.1 k d low high))
+
+-- without its first versions a list still rises
+pub IsRising-drop : (vs : List Version) (n : ℕ) → IsRising vs → IsRising (drop n vs)
+IsRising-drop vs n h i j d lt inside =
+    let there : n + j < length vs = omega (arith, length-drop n vs) in
+    rw (get_or-drop n vs i d, get_or-drop n vs j d) (h (n + i) (n + j) d (omega arith) there)
+
+-- without some of the first versions, fewer are at or below the front
+pub PartsAt-drop : (front : ℕ) (vs : List Version) (i n : ℕ) → n ≤ i → PartsAt front vs i → PartsAt front (drop n vs) (i - n)
+PartsAt-drop front vs i n le h =
+    ((λ k d low high. rw get_or-drop (h.0 (n + k) d (omega arith) (omega arith))), λ k d low high. rw get_or-drop (h.1 (n + k) d (omega arith) (omega (arith, length-drop n vs))))
+
+-- as many versions reach the front as stand in the first part
+pub count_by-reaches : (front : ℕ) (vs : List Version) (i : ℕ) → i ≤ length vs → PartsAt front vs i → count_by (reaches front) vs ≡ i
+count_by-reaches front vs i short h =
+    sym (length-filter (reaches front) vs) ∙ ap length (filter-reaches front vs i short h) ∙ length-take-le i vs short
+
+-- what is left after the first versions are given up, but for the last that reaches the front
+pub count_by-kept : (front : ℕ) (vs : List Version) (i : ℕ) → i ≤ length vs → PartsAt front vs i → count_by (reaches front) (drop (i - 1) vs) ≤ 1
+count_by-kept front vs i short h =
+    let few : i - (i - 1) ≤ 1 = omega arith in
+    let counted : count_by (reaches front) (drop (i - 1) vs) ≡ i - (i - 1) = count_by-reaches front (drop (i - 1) vs) (i - (i - 1)) (omega (arith, length-drop (i - 1) vs)) (PartsAt-drop front vs i (i - 1) (omega arith) h) in
+    omega arith
+
+-- where no version reaches the front, the count is 0
+pub count_at-none : (front : ℕ) (vs : List Version) (i : ℕ) → i ≤ length vs → PartsAt front vs i → i ≡ 0 → 0 ≡ count_at vs front
+count_at-none front vs i short h none =
+    sym (ap last_count (filter-reaches front vs i short h) ∙ ap (λ k. last_count (take k vs)) none)
+
+-- the last of the versions that reach the front tells the count
+pub count_at-last : (front : ℕ) (vs : List Version) (i : ℕ) (d : Version) → i ≤ length vs → PartsAt front vs i → i ≢ 0 → (get_or vs (i - 1) d).count ≡ count_at vs front
+count_at-last front vs zero d short h some = absurd (some refl)
+count_at-last front vs (suc i) d short h some =
+    let before : suc i - 1 ≡ i = omega arith in
+    ap (λ k. (get_or vs k d).count) before
+    ∙ sym (ap last_count (filter-reaches front vs (suc i) short h) ∙ last_count-take vs i d (omega arith))
+
+-- from the front on, each count is told by what is left once the versions before the last that reaches it are given up
+pub count_at-kept : (front f : ℕ) (vs : List Version) (i : ℕ) → i ≤ length vs → PartsAt front vs i → front ≤ f → count_at (drop (i - 1) vs) f ≡ count_at vs f
+count_at-kept front f vs zero short h le = refl
+count_at-kept front f [] (suc i) short h le = absurd (omega arith)
+count_at-kept front f (v ∷ vs) (suc i) short h le =
+    let before : suc i - 1 ≡ i = omega arith in
+    let last : (get_or (v ∷ vs) i v).front ≤ front = h.0 i v (omega arith) (omega arith) in
+    ap (λ k. count_at (drop k (v ∷ vs)) f) before ∙ count_at-drop front f (v ∷ vs) i v (omega arith) (omega arith)
+
+-- a list whose front is turned to its end and cut off there has lost its front
+pub turned_and_cut : (vs turned left : List Version) (n kept : ℕ) → n ≤ length vs → turned ≡ drop n vs ++ take n vs → left ≡ take kept turned → kept ≡ length vs - n → left ≡ drop n vs
+turned_and_cut vs turned left n kept short one two counted =
+    two ∙ ap (take kept) one ∙ take_at (drop n vs) (take n vs) kept (omega (arith, length-drop n vs))
+
+-- what retiring a front leaves: the versions from the last that reaches it on, which tell the same counts from there on
+pub record HasRetired (front : ℕ) (vs left : List Version) : Type 0 where
+  pub kept : left ≡ drop (count_by (reaches front) vs - 1) vs
+  pub few : count_by (reaches front) left ≤ 1
+  pub at : (f : ℕ) → front ≤ f → count_at left f ≡ count_at vs f
+
+-- giving up all versions before the last that reaches the front retires it
+pub has_retired : (front : ℕ) (slice vs left : List Version) (i : ℕ) → slice ≡ vs → i ≤ length slice → PartsAt front slice i → left ≡ drop (i - 1) vs → HasRetired front vs left
+has_retired front slice vs left i same bound parts left_is =
+    let P : List Version → Type 0 = λ l. (i ≤ length l) × PartsAt front l i in
+    let found : P vs = subst P same (bound, parts) in
+    record {
+      kept = left_is ∙ ap (λ k. drop (k - 1) vs) (sym (count_by-reaches front vs i found.0 found.1));
+      few = rw left_is (count_by-kept front vs i found.0 found.1);
+      at = λ f le. ap (λ l. count_at l f) left_is ∙ count_at-kept front f vs i found.0 found.1 le;
+    }

@@ -1,0 +1,2 @@
+-- Lemmas on versions at or below a front.
+pub mod HistoryLemmas
