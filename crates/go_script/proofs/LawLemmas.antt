@@ -116,20 +116,22 @@ line_and_rest n read rest = at_line n read >>= λ command. rest command >>= λ s
 
 -- steps of a line and the lines behind it
 step_and_rest : (step : Step) (rest : Result (List Step) ScriptFault) (steps : List Step) → (rest >>= λ later. Ok (step ∷ later)) ≡ Ok steps →
-    (later : List Step) × (rest ≡ Ok later) × (steps ≡ step ∷ later)
+    (later : List Step) × (rest ≡ Ok later) × (step ∷ later ≡ steps)
 step_and_rest step (Ok later) steps is = (later, refl, cc)
 step_and_rest step (Err fault) steps is = absurd (cc)
 
+-- a line that isn't skipped, and the lines behind it, that have steps
 taken : (n : ℕ) (read : Result Command FaultKind) (rest : Command → Result (List Step) ScriptFault) (steps : List Step) → line_and_rest n read rest ≡ Ok steps →
-    (command : Command) × (later : List Step) × (read ≡ Ok command) × (rest command ≡ Ok later) × (steps ≡ step_at n command ∷ later)
+    (command : Command) × (later : List Step) × (read ≡ Ok command) × (rest command ≡ Ok later) × (step_at n command ∷ later ≡ steps)
 taken n (Err kind) rest steps is = absurd (cc)
 taken n (Ok command) rest steps is = let parts = step_and_rest (step_at n command) (rest command) steps is in (command, parts.0, refl, parts.1, parts.2)
 
--- a fault of a line or of the lines behind it
+-- a fault of the lines behind a line
 fault_of_rest : (step : Step) (rest : Result (List Step) ScriptFault) (fault : ScriptFault) → (rest >>= λ later. Ok (step ∷ later)) ≡ Err fault → rest ≡ Err fault
 fault_of_rest step (Ok later) fault is = absurd (cc)
 fault_of_rest step (Err other) fault is = cc
 
+-- a fault of a line or of the lines behind it
 refused : (n : ℕ) (read : Result Command FaultKind) (rest : Command → Result (List Step) ScriptFault) (fault : ScriptFault) → line_and_rest n read rest ≡ Err fault →
     ((kind : FaultKind) × (read ≡ Err kind) × (fault ≡ Line n kind)) ⊎ ((command : Command) × (read ≡ Ok command) × (rest command ≡ Err fault))
 refused n (Err kind) rest fault is = inl (kind, refl, cc)
@@ -142,7 +144,7 @@ script_from-reads v before n (line ∷ more) steps is = elim (cases_Bool (is_ski
   | inl skipped ↦ IsReading-skipped v before n line more steps skipped (script_from-reads v before (n + 1) more steps (rw skipped at is))
   | inr kept ↦
       let parts = taken n (command_after v before (words line)) (λ command. script_from v (before ++ command ∷ []) (n + 1) more) steps (rw kept at is) in
-      subst (λ (s : List Step). IsReading v before n (line ∷ more) s) (sym parts.4)
+      subst (λ (s : List Step). IsReading v before n (line ∷ more) s) parts.4
       (IsReading-command v before n line more parts.0 parts.1 kept parts.2 (script_from-reads v (before ++ parts.0 ∷ []) (n + 1) more parts.1 parts.3))
 ]
 

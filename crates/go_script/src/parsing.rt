@@ -22,9 +22,9 @@ pub fn parse(alloc: Global, text: &[u8], v: u32) -> Result<Script, ScriptFault>
     let mut places = Places::new();
     let mut number = 0;
     let mut from = 0;
-    while let Some(place) = next_line(text, from) {
+    while let Some(line) = next_line(text, from) {
         number += 1;
-        match read_line(&text[place.start..place.stop], v, &places) {
+        match read_line(&text[line.start..line.stop], v, &places) {
             Ok(None) => {}
             Ok(Some(command)) => {
                 script.push(Step {
@@ -35,7 +35,7 @@ pub fn parse(alloc: Global, text: &[u8], v: u32) -> Result<Script, ScriptFault>
             }
             Err(kind) => return Err(ScriptFault::Line { line: number, kind }),
         }
-        from = place.next;
+        from = line.next;
     }
     Ok(script)
 }

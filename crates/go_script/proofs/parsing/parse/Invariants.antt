@@ -3,8 +3,8 @@ use Rattle.std.proofs.Common.{◌-◌, length}
 use Rattle.go_script.proofs.ReadingLemmas.{SoFar}
 use Rattle.go_script.proofs.parsing.parse.Given as goal
 
-abbrev pub invariant-loop-place : goal.invariant-loop-place
-invariant-loop-place l = SoFar l.v l.text l.places l.script l.number l.from
+abbrev pub invariant-loop-line : goal.invariant-loop-line
+invariant-loop-line l = SoFar l.v l.text l.places l.script l.number l.from
 
-abbrev pub decreases-loop-place : goal.decreases-loop-place
-decreases-loop-place l = length l.text - l.from
+abbrev pub decreases-loop-line : goal.decreases-loop-line
+decreases-loop-line l = length l.text - l.from
