@@ -1,0 +1,120 @@
+-- Lemmas on the lanes of a shard: one by one, and through a batch.
+use Rattle.std.proofs.Common.{◌≡◌, ℕ, suc, drop, ◌<◌, ◌≤◌, ◌≢◌, ◌+◌, ◌-◌, ◌/◌, ◌^◌, Bool, true, false, List, [], ◌∷◌, ◌++◌, length, get_or, take, filter, fold, map, count_by, All, refl, sym, ap, ◌∙◌, subst, arith, inl, inr, ◌⊎◌, append_assoc, append-nil, length-append}
+use Rattle.std.proofs.lemmas.Bool.{cases_lt}
+use Rattle.std.proofs.lemmas.Bool.Decides.{nat_tests}
+use Rattle.std.proofs.lemmas.List.{get_or_past, get_or_default, take-append-drop, length-map}
+use Rattle.std.proofs.lemmas.List.Sums.{count_by_more_yes, count_by-le-length, length-filter, sum_by-append}
+use Rattle.std.specs.Prelude.{◌==◌, if◌then◌else◌, Result, Ok, Err, OnErr}
+use Rattle.go_word.specs.declared.edge.Edge.{Edge}
+use Rattle.go_word.specs.Word.{plain_word}
+use Rattle.go_shard.specs.Lane.{Lane, empty_lane, promising, accepting, lane_at, is_at, IsAhead, IsRestored}
+
+-- what holds of each lane and of an empty one holds at any place
+pub lane_at-All : (P : Lane → Type 0) (lanes : List Lane) (place : ℕ) → All P lanes → P empty_lane → P (lane_at lanes place)
+lane_at-All P lanes place all empty = elim (cases_lt place (length lanes)) [ inl lt ↦ all place empty_lane lt | inr ge ↦ (let past : length lanes ≤ place = ge in rw get_or_past empty) ]
+
+-- a lane with nothing promised is what it is
+pub promising-same : (lane : Lane) → lane.promised ≡ 0 → promising lane 0 ≡ lane
+promising-same lane settled = ap (promising lane) (sym settled)
+
+-- lanes that are the same at each place are the same
+pub lanes-same : (xs ys : List Lane) → length xs ≡ length ys → ((place : ℕ) → lane_at xs place ≡ lane_at ys place) → xs ≡ ys
+lanes-same [] [] equal same = refl
+lanes-same [] (y ∷ ys) equal same = absurd (omega arith)
+lanes-same (x ∷ xs) [] equal same = absurd (omega arith)
+lanes-same (x ∷ xs) (y ∷ ys) equal same =
+    let head : x ≡ y = same 0 in
+    let rest : xs ≡ ys = lanes-same xs ys (omega arith) (λ place. same (suc place)) in
+    cc
+
+-- what holds of each lane, and whatever is promised, still holds with places promised
+pub promised-All : (P : Lane → Type 0) (old new : List Lane) (count : ℕ → ℕ) → length new ≡ length old
+    → ((lane : Lane) (n : ℕ) → P lane → P (promising lane n))
+    → ((place : ℕ) → lane_at new place ≡ promising (lane_at old place) (count place))
+    → All P old → All P new
+promised-All P old new count equal any same all = λ k d within.
+    subst P (get_or_default new k empty_lane d within) (subst P (sym (same k)) (any (lane_at old k) (count k) (all k empty_lane (omega arith))))
+
+-- a front that is ahead is so whatever is promised
+pub IsAhead-promising : (front : ℕ) (lane : Lane) (n : ℕ) → IsAhead front lane → IsAhead front (promising lane n)
+IsAhead-promising front lane n ahead = record { later = ahead.later; no_less = ahead.no_less }
+
+-- a lane that takes fewer words than are promised has them behind its words, and notes nothing yet
+pub accepting-some : (front : ℕ) (lane : Lane) (ws : List ℕ) → length ws < lane.promised → fold (accepting front) lane ws ≡ record { words = lane.words ++ ws; versions = lane.versions; promised = lane.promised - length ws }
+accepting-some front lane [] few = let none : lane.promised - 0 ≡ lane.promised = omega arith in rw (append-nil, none) refl
+accepting-some front lane (w ∷ ws) few =
+    let not_last : (lane.promised == 1) ≡ false = grind (arith, nat_tests) in
+    let next : accepting front lane w ≡ record { words = lane.words ++ w ∷ []; versions = lane.versions; promised = lane.promised - 1 } = rw not_last refl in
+    let left : lane.promised - 1 - length ws ≡ lane.promised - suc (length ws) = omega arith in
+    let words : (lane.words ++ w ∷ []) ++ ws ≡ lane.words ++ w ∷ ws = append_assoc lane.words (w ∷ []) ws in
+    ap (λ l. fold (accepting front) l ws) next ∙ accepting-some front (record { words = lane.words ++ w ∷ []; versions = lane.versions; promised = lane.promised - 1 }) ws (omega arith) ∙ rw (left, words) refl
+
+-- a lane that takes all that was promised notes their count
+pub accepting-all : (front : ℕ) (lane : Lane) (w : ℕ) (ws : List ℕ) → suc (length ws) ≡ lane.promised → fold (accepting front) lane (w ∷ ws) ≡ record { words = lane.words ++ w ∷ ws; versions = lane.versions ++ record { front = front; count = length lane.words + suc (length ws) } ∷ []; promised = 0 }
+accepting-all front lane w [] all =
+    let last : (lane.promised == 1) ≡ true = grind (arith, nat_tests) in
+    let none : lane.promised - 1 ≡ 0 = omega arith in
+    rw (last, none) refl
+accepting-all front lane w (v ∷ ws) all =
+    let not_last : (lane.promised == 1) ≡ false = grind (arith, nat_tests) in
+    let next : accepting front lane w ≡ record { words = lane.words ++ w ∷ []; versions = lane.versions; promised = lane.promised - 1 } = rw not_last refl in
+    let words : (lane.words ++ w ∷ []) ++ v ∷ ws ≡ lane.words ++ w ∷ v ∷ ws = append_assoc lane.words (w ∷ []) (v ∷ ws) in
+    let count : length (lane.words ++ w ∷ []) + suc (length ws) ≡ length lane.words + suc (suc (length ws)) = rw length-append (omega arith) in
+    ap (λ l. fold (accepting front) l (v ∷ ws)) next ∙ accepting-all front (record { words = lane.words ++ w ∷ []; versions = lane.versions; promised = lane.promised - 1 }) v ws (omega arith) ∙ rw (words, count) refl
+
+-- of a list no part counts more than the whole
+count_by-take : (p : Edge → Bool) (n : ℕ) (xs : List Edge) → count_by p (take n xs) ≤ count_by p xs
+count_by-take p n xs =
+    let cut : count_by p (take n xs ++ drop n xs) ≡ count_by p (take n xs) + count_by p (drop n xs) = sum_by-append (λ x. if p x then 1 else 0) (take n xs) (drop n xs) in
+    let whole : count_by p (take n xs ++ drop n xs) ≡ count_by p xs = ap (count_by p) (take-append-drop n xs) in
+    omega arith
+
+-- before an entry that is counted there were fewer than in the whole
+count_by-before : (p : Edge → Bool) (xs : List Edge) (i : ℕ) (d : Edge) → i < length xs → p (get_or xs i d) ≡ true → count_by p (take i xs) < count_by p xs
+count_by-before p xs i d within counted =
+    let more : count_by p (take (i + 1) xs) ≡ count_by p (take i xs) + 1 = count_by_more_yes p xs i d within counted in
+    let part : count_by p (take (i + 1) xs) ≤ count_by p xs = count_by-take p (i + 1) xs in
+    omega arith
+
+-- what a lane needs of its next word: it was promised, the front is ahead, and the count fits
+pub record IsReadyFor (front : ℕ) (lane : Lane) : Type 0 where
+  pub some : 0 < lane.promised
+  pub ahead : IsAhead front lane
+  pub small : length lane.words + 1 < 2 ^ 32
+
+-- so far, each lane is ready for its next entry of the batch
+pub accept_ready : (shards front : ℕ) (before lane : Lane) (batch : List Edge) (i p : ℕ) (d : Edge) → i < length batch → (get_or batch i d).src / shards ≡ p
+    → before.promised ≡ count_by (is_at shards p) batch → IsAhead front before → length before.words + length batch < 2 ^ 32
+    → lane ≡ fold (accepting front) before (map plain_word (filter (is_at shards p) (take i batch)))
+    → IsReadyFor front lane
+accept_ready shards front before lane batch i p d within at promised ahead small so_far =
+    let here : is_at shards p (get_or batch i d) ≡ true = grind (arith, nat_tests) in
+    let count : length (map plain_word (filter (is_at shards p) (take i batch))) ≡ count_by (is_at shards p) (take i batch) = length-map (filter (is_at shards p) (take i batch)) plain_word ∙ length-filter (is_at shards p) (take i batch) in
+    let fewer : count_by (is_at shards p) (take i batch) < count_by (is_at shards p) batch = count_by-before (is_at shards p) batch i d within here in
+    let all : count_by (is_at shards p) batch ≤ length batch = count_by-le-length (is_at shards p) batch in
+    let few : length (map plain_word (filter (is_at shards p) (take i batch))) < before.promised = omega arith in
+    let is = so_far ∙ accepting-some front before (map plain_word (filter (is_at shards p) (take i batch))) few in
+    let longer = length-append before.words (map plain_word (filter (is_at shards p) (take i batch))) in
+    rw is (record {
+      some = omega arith;
+      ahead = record { later = ahead.later; no_less = λ k d inside. let h = ahead.no_less k d inside in omega arith };
+      small = omega arith;
+    })
+
+-- a number is 0 or not
+nat_zero_or_not : (n : ℕ) → (n ≡ 0) ⊎ (n ≢ 0)
+nat_zero_or_not n = elim (cases_lt 0 n) [ inl some ↦ inr (λ e. omega arith) | inr none ↦ inl (omega arith) ]
+
+-- a lane whose promises were withdrawn is what it was
+pub restored : (named : ℕ) (old mid new : Lane) → IsRestored named old mid → new ≡ (if named == 0 then mid else promising mid 0) → new ≡ old
+restored named old mid new kept withdrawn =
+    let untouched : named ≡ 0 → mid ≡ old = kept.untouched in
+    let back : promising mid 0 ≡ old = kept.back in
+    let none : named ≡ 0 → new ≡ mid = λ e. withdrawn ∙ ap (λ (b : Bool). if b then mid else promising mid 0) (let t : (named == 0) ≡ true = grind (arith, nat_tests) in t) in
+    let some : named ≢ 0 → new ≡ promising mid 0 = λ ne. withdrawn ∙ ap (λ (b : Bool). if b then mid else promising mid 0) (let t : (named == 0) ≡ false = grind (arith, nat_tests) in t) in
+    elim (nat_zero_or_not named) [ inl e ↦ none e ∙ untouched e | inr ne ↦ some ne ∙ back ]
+
+-- what holds anyway holds on an `Err`
+pub on_err : {T E : Type 0} (P : Type 0) (r : Result T E) → P → OnErr r P
+on_err P (Ok x) h = tt
+on_err P (Err e) h = h

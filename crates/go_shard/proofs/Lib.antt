@@ -1,0 +1,3 @@
+-- The lemmas on lanes and on what a shard stands for.
+pub mod LaneLemmas
+pub mod StandsLemmas

@@ -1,0 +1,104 @@
+// A batch of entries, word by word: a place for each is promised first, and then all are taken.
+ghost use Rattle.std.specs.Prelude.{◌≡◌, ◌==◌, if◌then◌else◌, ℕ, ◌+◌, ◌/◌, ◌<◌, ◌^◌, length, All, count_by, filter, fold, map, OnOk, OnErr};
+ghost use Rattle.go_word.specs.Word.{IsStorable, plain_word};
+ghost use Rattle.go_shard.specs.Lane.{lane_at, is_at, promising, accepting, IsAhead, IsRestored};
+
+use crate::slot::Slot;
+use go_word::{Edge, plain};
+use std::alloc::{AllocError, Global};
+
+/// Takes the entries of the batch, each to the end of its vertex. Where memory is refused, none is taken.
+pub(crate) fn take_batch(
+    alloc: Global,
+    shards: u32,
+    slots: &mut [Slot],
+    batch: &[Edge],
+    front: u64,
+) -> Result<(), AllocError>
+    requires shared { 0 < shards }
+    requires inside { All (λ e. e.src / shards < length slots.old) batch.now }
+    requires storable { All IsStorable batch.now }
+    requires settled { All (λ lane. lane.promised ≡ 0) slots.old }
+    requires ahead { All (IsAhead front) slots.old }
+    requires small { All (λ lane. length lane.words + length batch.now < 2 ^ 32) slots.old }
+    ensures ok { OnOk result ((place : ℕ) → lane_at slots.new place ≡ fold (accepting front)
+        (promising (lane_at slots.old place) (count_by (is_at shards place) batch.now))
+        (map plain_word (filter (is_at shards place) batch.now))) }
+    ensures err { OnErr result (slots.new ≡ slots.old) }
+{
+    promise_all(alloc, shards, slots, batch)?;
+    accept_all(shards, slots, batch, front);
+    Ok(())
+}
+
+// Promises each entry of the batch a place at its vertex. Where memory is refused, nothing is promised.
+fn promise_all(
+    alloc: Global,
+    shards: u32,
+    slots: &mut [Slot],
+    batch: &[Edge],
+) -> Result<(), AllocError>
+    requires shared { 0 < shards }
+    requires inside { All (λ e. e.src / shards < length slots.old) batch.now }
+    requires settled { All (λ lane. lane.promised ≡ 0) slots.old }
+    ensures ok { OnOk result ((place : ℕ) → lane_at slots.new place
+        ≡ promising (lane_at slots.old place) (count_by (is_at shards place) batch.now)) }
+    ensures err { OnErr result (slots.new ≡ slots.old) }
+{
+    let promised = promise_some(alloc, shards, slots, batch);
+    if promised.is_err() {
+        withdraw_all(shards, slots, batch);
+    }
+    promised
+}
+
+// Promises a place to one entry after another, up to where memory is refused.
+fn promise_some(
+    alloc: Global,
+    shards: u32,
+    slots: &mut [Slot],
+    batch: &[Edge],
+) -> Result<(), AllocError>
+    requires shared { 0 < shards }
+    requires inside { All (λ e. e.src / shards < length slots.old) batch.now }
+    requires settled { All (λ lane. lane.promised ≡ 0) slots.old }
+    ensures ok { OnOk result ((place : ℕ) → lane_at slots.new place
+        ≡ promising (lane_at slots.old place) (count_by (is_at shards place) batch.now)) }
+    ensures kept { (place : ℕ) → IsRestored
+        (count_by (is_at shards place) batch.now) (lane_at slots.old place) (lane_at slots.new place) }
+{
+    for edge in batch {
+        slots[(edge.src / shards) as usize].promise(alloc)?;
+    }
+    Ok(())
+}
+
+// Takes back what was promised to the vertices that the batch names.
+fn withdraw_all(shards: u32, slots: &mut [Slot], batch: &[Edge])
+    requires shared { 0 < shards }
+    requires inside { All (λ e. e.src / shards < length slots.old) batch.now }
+    ensures { (place : ℕ) → lane_at slots.new place
+        ≡ (if count_by (is_at shards place) batch.now == 0
+        then lane_at slots.old place else promising (lane_at slots.old place) 0) }
+{
+    for edge in batch {
+        slots[(edge.src / shards) as usize].withdraw();
+    }
+}
+
+// Takes the entries of the batch, each of which was promised a place.
+fn accept_all(shards: u32, slots: &mut [Slot], batch: &[Edge], front: u64)
+    requires shared { 0 < shards }
+    requires inside { All (λ e. e.src / shards < length slots.old) batch.now }
+    requires storable { All IsStorable batch.now }
+    requires promised { (place : ℕ) → (lane_at slots.old place).promised ≡ count_by (is_at shards place) batch.now }
+    requires ahead { All (IsAhead front) slots.old }
+    requires small { All (λ lane. length lane.words + length batch.now < 2 ^ 32) slots.old }
+    ensures { (place : ℕ) → lane_at slots.new place
+        ≡ fold (accepting front) (lane_at slots.old place) (map plain_word (filter (is_at shards place) batch.now)) }
+{
+    for edge in batch {
+        let word = plain(*edge);
+        slots[(edge.src / shards) as usize].accept(word, front);
+    }
+}

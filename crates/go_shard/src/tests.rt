@@ -1,0 +1,87 @@
+// Worked rows of a shard.
+ghost use Rattle.std.specs.Prelude.{◌≡◌, ◌∷◌, [], true, false, IfOk};
+
+use crate::Shard;
+use go_word::Edge;
+use std::alloc::{AllocError, Global};
+use std::process::Abort;
+use std::test::Fail;
+
+fn add(src: u32, dst: u32) -> Edge
+    ensures src { result.src ≡ src }
+    ensures dst { result.dst ≡ dst }
+{
+    Edge {
+        del: false,
+        src,
+        dst,
+    }
+}
+
+fn del(src: u32, dst: u32) -> Edge
+    ensures src { result.src ≡ src }
+    ensures dst { result.dst ≡ dst }
+{
+    Edge {
+        del: true,
+        src,
+        dst,
+    }
+}
+
+// Shard 1 of 2 over 8 vertices, after three entries.
+fn begun(alloc: Global) -> Result<Shard, AllocError>
+    ensures index { IfOk result (λ shard. shard.index ≡ 1) }
+    ensures shards { IfOk result (λ shard. shard.shards ≡ 2) }
+    ensures vertices { IfOk result (λ shard. shard.vertices ≡ 8) }
+    ensures cut { IfOk result (λ shard. shard.cut ≡ 0) }
+    ensures front { IfOk result (λ shard. shard.front ≡ 3) }
+    ensures fronts { IfOk result (λ shard. shard.fronts ≡ 0 ∷ 3 ∷ []) }
+{
+    let mut shard = Shard::new(alloc, 1, 2, 8)?;
+    shard.append(&[add(1, 2), add(3, 2), add(1, 2)], 3)?;
+    Ok(shard)
+}
+
+// The same after two entries more.
+fn grown(alloc: Global) -> Result<Shard, AllocError>
+    ensures index { IfOk result (λ shard. shard.index ≡ 1) }
+    ensures shards { IfOk result (λ shard. shard.shards ≡ 2) }
+    ensures vertices { IfOk result (λ shard. shard.vertices ≡ 8) }
+    ensures cut { IfOk result (λ shard. shard.cut ≡ 0) }
+    ensures fronts { IfOk result (λ shard. shard.fronts ≡ 0 ∷ 3 ∷ 6 ∷ []) }
+{
+    let mut shard = begun(alloc)?;
+    shard.append(&[del(1, 2), add(1, 3)], 6)?;
+    Ok(shard)
+}
+
+#[test]
+fn what_was_at_a_front_stays(rt: HostRuntime) -> Result<(), Fail> {
+    let shard = grown(rt.alloc())?;
+    assert_eq!(rt; shard.front(), 6);
+    assert_eq!(rt; shard.cut(), 0);
+    let early = shard.degree_at(1, 3);
+    let late = shard.degree_at(1, 6);
+    assert_eq!(rt; (early, late), (2, 4));
+    assert_eq!(rt; shard.degree_at(3, 6), 1);
+    let mut out = Vec::new(rt.alloc());
+    shard.neighbours(1, early, &mut out)?;
+    assert_eq!(rt; out.as_slice(), [2, 2].as_slice());
+    shard.neighbours(1, late, &mut out)?;
+    assert_eq!(rt; out.as_slice(), [2, 3].as_slice());
+    Ok(())
+}
+
+#[test]
+fn a_refused_batch_changes_nothing(rt: HostRuntime) -> Result<(), Fail> {
+    let mut shard = begun(rt.alloc())?;
+    match shard.append(&[del(1, 2), add(1, 3)], 6) {
+        Ok(()) => assert_eq!(rt; shard.degree_at(1, 6), 4),
+        Err(_) => {
+            assert_eq!(rt; shard.front(), 3);
+            assert_eq!(rt; shard.degree_at(1, 3), 2);
+        }
+    }
+    Ok(())
+}
