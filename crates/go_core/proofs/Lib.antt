@@ -1,0 +1,19 @@
+-- The lemmas on the ring's rule.
+pub mod ListLemmas
+pub mod Lookups
+pub mod Totals
+pub mod Entries
+pub mod Rising
+pub mod Onward
+pub mod Loads
+pub mod Claims
+pub mod Laps
+pub mod Stores
+pub mod Fronts
+pub mod Splits
+pub mod Rows
+pub mod Openings
+pub mod Parties
+pub mod Ready
+pub mod Runs
+pub mod Taken

@@ -1,0 +1,158 @@
+-- A machine that begins is tied to every log of as many entries as lie before its first position.
+use Rattle.std.proofs.Common.{◌≡◌, ℕ, ◌+◌, ◌*◌, ◌^◌, ◌<◌, ◌≤◌, Bool, true, false, cond, List, [], ◌∷◌, ◌++◌, map, length, set, take, replicate, sym, refl, ap, ◌∙◌, arith, subst}
+use Rattle.std.specs.Prelude.{All, sum_by, count_by, slice_index}
+use Rattle.std.proofs.lemmas.List.{length-set, length-replicate, get_or-replicate, take_at}
+use Rattle.std.proofs.lemmas.List.Sums.{sum_by-cons}
+use Rattle.std.proofs.lemmas.List.Elements.{All-cons}
+use Rattle.go_core.specs.declared.act.Role.{Role}
+use Rattle.std.proofs.lemmas.List.Sums.{sum_by-le}
+use Rattle.std.proofs.lemmas.List.Elements.{All-nil, All-weaker}
+use Rattle.go_word.specs.declared.edge.Edge.{Edge}
+use Rattle.go_word.specs.Word.{is_matched, blank_word}
+use Rattle.go_word.proofs.WordLaws.{is_matched-blank_word}
+use Rattle.go_core.specs.declared.view.View.{View}
+use Rattle.go_core.specs.Frame.{Frame, slot}
+use Rattle.go_core.specs.View.{unfilled, stands}
+use Rattle.go_core.specs.Rule.{IsOf, owed, IsWritten, AreOwn, IsSound, Seated, TiedBy}
+use Rattle.go_core.specs.Opening.{AreOpening, opening_view, opening_party, archives_as, flushes_as}
+use Rattle.go_core.specs.Machine.{IsTied, views_of, frame_of, machine_of}
+use Rattle.go_core.proofs.Lookups.{lookup-within}
+use Rattle.go_core.proofs.Claims.{All-lookup, word_here, word_other}
+use Rattle.go_core.proofs.Splits.{own_none}
+
+-- a view is one of the beginning, with whatever role
+abbrev pub IsOpening : ℕ → View → Type 0
+IsOpening first v = v ≡ opening_view first v.archives v.flushes
+
+-- a condition of a view counts once or not at all
+abbrev bit_of : Bool → ℕ
+bit_of b = cond b 1 0
+
+-- a sum of nothing
+sum_none : (g : View → ℕ) (views : List View) → All (λ v. g v ≡ 0) views → sum_by g views ≡ 0
+sum_none g views none =
+    let bound : sum_by g views ≤ length views * 0 = sum_by-le g 0 views (All-weaker (λ v. g v ≡ 0) (λ v. g v ≤ 0) (λ v is. is_le (g v) is) views none) in
+    omega arith
+  where
+    is_le : (n : ℕ) → n ≡ 0 → n ≤ 0
+    is_le n is = omega arith
+
+-- a view of the beginning meets the rule
+seated_opening : (f : Frame) (log : List Edge) (words : List ℕ) (views : List View) (archives flushes : Bool) → AreOpening f words → f.first ≤ length log → ((p : ℕ) → p < f.first → IsWritten log views p) → Seated f log words views (opening_view f.first archives flushes)
+seated_opening f log words views archives flushes o from written =
+    let archived = o.archived in
+    let durable = o.durable in
+    record {
+      spent_else = λ dead. absurd (apart dead);
+      taken_from = λ live. omega arith;
+      taken_to = omega arith;
+      seen_written = written;
+      head_to = from;
+      archived_to = omega arith;
+      durable_to = omega arith;
+      archiver_knows = λ role. sym archived;
+      archiver_took = λ role. omega arith;
+      flusher_knows = λ role. sym durable;
+      flusher_took = λ role. omega arith;
+      pending_of = All-nil (IsOf log);
+      abandoned_of = All-nil (IsOf log);
+      flagged = λ some'. absurd (omega arith);
+      own = own_none log views;
+      joined = All-nil (AreOwn log views);
+      loads = All-nil (IsSound f log words views f.first);
+    }
+  where
+    apart : true ≡ false → ⊥
+    apart e = cc
+
+-- the opening state is tied
+pub opening_tied : (f : Frame) (log : List Edge) (words : List ℕ) (views : List View) → 0 < f.slots → 4 ≤ f.base → AreOpening f words → length log ≡ f.first → All (IsOpening f.first) views → count_by (λ v. v.archives) views ≤ 1 → count_by (λ v. v.flushes) views ≤ 1 → TiedBy f log words views
+opening_tied f log words views some_slots four_words o long all one_archiver one_flusher =
+    let first = f.first in
+    let head = o.head in
+    let archived = o.archived in
+    let durable = o.durable in
+    let flag = o.flag in
+    let owe : (p : ℕ) → owed views p ≡ 0 = λ p. sum_none (unfilled p) views (All-weaker (IsOpening first) (λ v. unfilled p v ≡ 0) (λ v is. ap (unfilled p) is) views all) in
+    let stand : (p : ℕ) → sum_by (stands p) views ≡ 0 = λ p. sum_none (stands p) views (All-weaker (IsOpening first) (λ v. stands p v ≡ 0) (λ v is. ap (stands p) is) views all) in
+    let disks : count_by (λ v. v.disk_raised) views ≡ 0 = sum_none (λ v. bit_of v.disk_raised) views (All-weaker (IsOpening first) (λ v. bit_of v.disk_raised ≡ 0) (λ v is. ap (λ u. bit_of u.disk_raised) is) views all) in
+    let memories : count_by (λ v. v.memory_raised) views ≡ 0 = sum_none (λ v. bit_of v.memory_raised) views (All-weaker (IsOpening first) (λ v. bit_of v.memory_raised ≡ 0) (λ v is. ap (λ u. bit_of u.memory_raised) is) views all) in
+    let written : (p : ℕ) → p < first → IsWritten log views p = λ p less. record { within = omega arith; filled = owe p } in
+    record {
+      ringed = record {
+        some_slots = some_slots;
+        four_words = four_words;
+        all_words = o.all_words;
+        head = omega arith;
+        archived_from = omega arith;
+        durable_from = omega arith;
+        archived_to = omega arith;
+        durable_to = omega arith;
+        archived_written = λ p below. written p (omega arith);
+        durable_written = λ p below. written p (omega arith);
+        beyond = λ p far within. absurd (omega arith);
+        holds = λ p e from to is there. let less = is.within in absurd (omega arith);
+        waits = λ p from to not. ap (is_matched f.slots p) (o.blanks p (omega arith) (omega arith)) ∙ is_matched-blank_word f.slots p;
+      };
+      seated = λ i v there.
+          (let is : IsOpening first v = All-lookup (IsOpening first) views i v all there in
+          subst (λ u. Seated f log words views u) (sym is) (seated_opening f log words views v.archives v.flushes o (omega arith) written));
+      once = λ p from within. absurd (omega arith);
+      none_before = λ p before. stand p;
+      none_after = λ p after. stand p;
+      one_archiver = one_archiver;
+      one_flusher = one_flusher;
+      storable = λ p e from there. let within = lookup-within log p e there in absurd (omega arith);
+      flag = record { known = omega arith; none_disk = λ none. disks; none_memory = λ none. memories; disk = λ is. absurd (omega arith); memory = λ is. absurd (omega arith) };
+    }
+
+-- the words of the beginning, by what was written over zeros
+pub opening_words : (slots first : ℕ) (zeros words : List ℕ) → zeros ≡ replicate (6 + slots) 0 → ((k : ℕ) → k < 6 → slice_index words k ≡ slice_index (set (set (set zeros 0 first) 1 first) 2 first) k)
+    → ((p : ℕ) → first ≤ p → p < first + slots → slot (frame_of slots first) words p ≡ blank_word slots p) → length words ≡ 6 + slots → AreOpening (frame_of slots first) words
+opening_words slots first zeros words are shared blanks long =
+    let many : length zeros ≡ 6 + slots = ap length are ∙ length-replicate (6 + slots) 0 in
+    let one = set zeros 0 first in
+    let two = set one 1 first in
+    let long_one : length one ≡ length zeros = length-set zeros 0 first in
+    let long_two : length two ≡ length one = length-set one 1 first in
+    let zero_at : (k : ℕ) → k < 6 → slice_index zeros k ≡ 0 = λ k less. ap (λ zs. slice_index zs k) are ∙ get_or-replicate (6 + slots) k 0 0 (omega arith) in
+    let other : (k : ℕ) → 2 < k → k < 6 → slice_index words k ≡ 0 = λ k more less.
+    shared k less ∙ word_other two 2 k first (λ e. omega arith) ∙ word_other one 1 k first (λ e. omega arith) ∙ word_other zeros 0 k first (λ e. omega arith) ∙ zero_at k less
+    in
+    record {
+      all_words = long;
+      head = shared 0 (omega arith) ∙ word_other two 2 0 first (λ e. omega arith) ∙ word_other one 1 0 first (λ e. omega arith) ∙ word_here zeros 0 first (omega arith);
+      archived = shared 1 (omega arith) ∙ word_other two 2 1 first (λ e. omega arith) ∙ word_here one 1 first (omega arith);
+      durable = shared 2 (omega arith) ∙ word_here two 2 first (omega arith);
+      flag = other 3 (omega arith) (omega arith);
+      turns = λ k from to. other k (omega arith) to;
+      blanks = blanks;
+    }
+
+-- a slice of a whole vector, written back
+pub whole_written : (words : List ℕ) (n : ℕ) (rest : List ℕ) → length words ≡ n → take n (words ++ rest) ≡ words
+whole_written words n rest long = take_at words rest n long
+
+-- the views of parties at the beginning
+opening_views : (first : ℕ) (roles : List Role) → All (IsOpening first) (views_of (map (opening_party first) roles))
+opening_views first [] = All-nil (IsOpening first)
+opening_views first (r ∷ rs) = All-cons (IsOpening first) (opening_party first r).view (views_of (map (opening_party first) rs)) refl (opening_views first rs)
+
+-- they have the roles that were asked for
+count_roles : (g : View → Bool) (h : Role → Bool) (first : ℕ) → ((r : Role) → g (opening_party first r).view ≡ h r) → (roles : List Role) → count_by g (views_of (map (opening_party first) roles)) ≡ count_by h roles
+count_roles g h first same [] = refl
+count_roles g h first same (r ∷ rs) =
+    let rest : count_by g (views_of (map (opening_party first) rs)) ≡ count_by h rs = count_roles g h first same rs in
+    let one : bit_of (g (opening_party first r).view) ≡ bit_of (h r) = ap bit_of (same r) in
+    omega (arith, sum_by-cons (λ v. bit_of (g v)) (opening_party first r).view (views_of (map (opening_party first) rs)), sum_by-cons (λ q. bit_of (h q)) r rs)
+
+-- a machine that begins is tied to every log of as many entries as come before its first position
+pub opening_machine : (slots first : ℕ) (words : List ℕ) (roles : List Role) → 0 < slots → first ≤ 2 ^ 48 → AreOpening (frame_of slots first) words → count_by archives_as roles ≤ 1 → count_by flushes_as roles ≤ 1 → (log : List Edge) → length log ≡ first → IsTied (machine_of slots first words (map (opening_party first) roles)) log
+opening_machine slots first words roles any few opening archivers flushers log long =
+    let views = views_of (map (opening_party first) roles) in
+    let a : count_by (λ v. v.archives) views ≡ count_by archives_as roles = count_roles (λ v. v.archives) archives_as first (λ r. refl) roles in
+    let b : count_by (λ v. v.flushes) views ≡ count_by flushes_as roles = count_roles (λ v. v.flushes) flushes_as first (λ r. refl) roles in
+    record {
+      tied = opening_tied (frame_of slots first) log words views any (omega arith) opening long (opening_views first roles) (omega arith) (omega arith);
+      fits = omega arith;
+    }

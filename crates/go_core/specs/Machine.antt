@@ -1,0 +1,164 @@
+-- The machine without threads: its state, each act's row, and what a list of events makes of it.
+use Rattle.std.specs.Prelude.{◌≡◌, ◌≢◌, ◌⊎◌, ℕ, ◌+◌, ◌-◌, ◌^◌, ◌<◌, ◌≤◌, max, true, if◌then◌else◌, List, [], ◌∷◌, ◌++◌, map, length, set, slice_index_or, All, find, Option, Some, None}
+use mathlib.Core.Option.{some}
+use lib.ListN.{get_elem?}
+use Rattle.go_word.specs.declared.edge.Edge.{Edge}
+use Rattle.go_word.specs.Word.{IsStorable, word, is_matched}
+use Rattle.go_core.specs.declared.act.Act.{Act}
+use Rattle.go_core.specs.declared.act.Act.TheVariants.{Claim, LoadHead, LoadArchived, StoreWord, LoadOrdered, StoreArchived, Split, Join}
+use Rattle.go_core.specs.declared.act.Event.{Event}
+use Rattle.go_core.specs.declared.act.Out.{Out}
+use Rattle.go_core.specs.declared.act.Out.TheVariants.{Number, Word, Done, Refused}
+use Rattle.go_core.specs.declared.entry.Entry.{Entry}
+use Rattle.go_core.specs.declared.view.View.{View}
+use Rattle.go_core.specs.declared.party.Stake.{Stake}
+use Rattle.go_core.specs.declared.party.Party.{Party}
+use Rattle.go_core.specs.Frame.{Frame, place, slot, head_in, archived_in}
+use Rattle.go_core.specs.View.{stands_at, spent, unmoved, claimed, knowing_head, knowing_archived, stored, took, archiving, split_off, joining}
+use Rattle.go_core.specs.Rule.{TiedBy}
+use Rattle.go_core.specs.Acts.{CanClaim, HasRoom, CanTake, CanArchive, CanJoin}
+
+-- the words and the parties, within a frame
+pub record Machine : Type 0 where
+  pub frame : Frame
+  pub words : List ℕ
+  pub parties : List Party
+
+-- what the parties know of the log
+abbrev pub views_of : List Party → List View
+views_of parties = map (λ p. p.view) parties
+
+-- the machine is tied to a log, which has room for as many positions as a number of 48 bits
+pub record IsTied (m : Machine) (log : List Edge) : Type 0 where
+  pub tied : TiedBy m.frame log m.words (views_of m.parties)
+  pub fits : length log ≤ 2 ^ 48
+
+-- the stake of a party that takes no part
+abbrev pub no_stake : Stake
+no_stake = record { pins = []; shard = 0; file = 0 }
+
+-- a party that takes no part
+abbrev pub absent : Party
+absent = record { view = spent; stake = no_stake }
+
+-- the stake of a party that is split off: it knows the parts, and holds no pin
+abbrev pub stake_off : Stake → Stake
+stake_off s = record s { pins = [] }
+
+-- the stake of two parties that were joined
+abbrev pub stakes_joined : Stake → Stake → Stake
+stakes_joined s other = record { pins = s.pins ++ other.pins; shard = max s.shard other.shard; file = max s.file other.file }
+
+-- the machine's frame: its two turns follow the four words
+abbrev pub frame_of : ℕ → ℕ → Frame
+frame_of slots first = record { slots = slots; base = 6; first = first }
+
+-- the machine of these parts
+abbrev pub machine_of : ℕ → ℕ → List ℕ → List Party → Machine
+machine_of slots first words parties = record { frame = frame_of slots first; words = words; parties = parties }
+
+-- the party of a number
+abbrev pub party_at : Machine → ℕ → Party
+party_at m i = slice_index_or m.parties i absent
+
+-- there is a party of this number, and it takes part
+pub record IsLiveAt (parties : List Party) (i : ℕ) : Type 0 where
+  pub within : i < length parties
+  pub live : (slice_index_or parties i absent).view.live ≡ true
+
+-- the machine with another view of one party
+abbrev pub with_view : ℕ → View → Machine → Machine
+with_view i w m = record m { parties = set m.parties i (record { view = w; stake = (party_at m i).stake }) }
+
+-- the machine with another word
+abbrev pub with_word : ℕ → ℕ → Machine → Machine
+with_word k n m = record m { words = set m.words k n }
+
+-- an act whose condition holds is answered and makes this of the machine; else it is refused, and nothing changes
+abbrev pub Does : Type 0 → Out → Machine → Machine → Out → Machine → Type 0
+Does condition answer after before out now = (condition × (out ≡ answer) × (now ≡ after)) ⊎ ((condition → ⊥) × (out ≡ Refused) × (now ≡ before))
+
+-- a store of a word, by the pending entry that stands at its position
+abbrev pub Stores : Machine → ℕ → ℕ → Option Entry → Out → Machine → Type 0
+Stores m i at None out now = (out ≡ Refused) × (now ≡ m)
+Stores m i at (Some x) out now =
+    Does (((party_at m i).view.live ≡ true) × HasRoom m.frame (party_at m i).view at) Done (with_word (place m.frame at) (word m.frame.slots at x.edge) (with_view i (stored x (party_at m i).view) m)) m out now
+
+-- the row of an act: when it is done, what it is answered and what it makes of the machine
+abbrev pub Row : Machine → ℕ → Act → Out → Machine → Type 0
+Row m i (Claim edges) out now =
+    let v = (party_at m i).view in
+    let head = head_in m.words in
+    Does ((v.live ≡ true) × CanClaim m.words edges) (Number head) (with_word 0 (head + length edges) (with_view i (claimed head edges v) m)) m out now
+Row m i LoadHead out now =
+    let v = (party_at m i).view in
+    Does (v.live ≡ true) (Number (head_in m.words)) (with_view i (knowing_head (head_in m.words) v) m) m out now
+Row m i LoadArchived out now =
+    let v = (party_at m i).view in
+    Does (v.live ≡ true) (Number (archived_in m.words)) (with_view i (knowing_archived (archived_in m.words) v) m) m out now
+Row m i (StoreWord at) out now = Stores m i at (find (stands_at at) (party_at m i).view.pending) out now
+Row m i (LoadOrdered at) out now =
+    let v = (party_at m i).view in
+    let x = slot m.frame m.words at in
+    Does ((v.live ≡ true) × CanTake m.words v at) (Word x) (with_view i (if is_matched m.frame.slots at x then took at v else unmoved v) m) m out now
+Row m i (StoreArchived front) out now =
+    let v = (party_at m i).view in
+    Does ((v.live ≡ true) × CanArchive m.words v (party_at m i).stake front) Done (with_word 1 front (with_view i (archiving front v) m)) m out now
+Row m i Split out now =
+    let v = (party_at m i).view in
+    let new : Party = record { view = split_off v; stake = stake_off (party_at m i).stake } in
+    Does ((v.live ≡ true) × (length m.parties < 2 ^ 32 - 1)) (Number (length m.parties)) (record m { parties = (with_view i (unmoved v) m).parties ++ new ∷ [] }) m out now
+Row m i (Join j) out now =
+    let p = party_at m i in
+    let other = party_at m j in
+    let both : Party = record { view = joining p.view other.view; stake = stakes_joined p.stake other.stake } in
+    Does ((p.view.live ≡ true) × (j ≢ i) × CanJoin other.view) Done (record m { parties = set (set m.parties i both) j absent }) m out now
+
+-- the entries by which an act makes the log longer
+abbrev pub claims : Act → Out → List Edge
+claims (Claim edges) (Number n) = edges
+claims a out = []
+
+-- what a machine keeps: there is a log that it is tied to, and no more slots than positions
+pub record Stands (m : Machine) : Type 0 where
+  pub few : m.frame.slots ≤ 2 ^ 48
+  pub log : List Edge
+  pub tied : IsTied m log
+
+-- what the steps of a party rely on
+pub record IsReady (m : Machine) (i : ℕ) : Type 0 where
+  pub some : 0 < m.frame.slots
+  pub few : m.frame.slots ≤ 2 ^ 48
+  pub words : length m.words ≡ 6 + m.frame.slots
+  pub taken : (party_at m i).view.taken ≤ 2 ^ 48
+  pub storable : All (λ x. IsStorable x.edge) (party_at m i).view.pending
+
+-- as many events as there are answers, one after another
+abbrev pub Run : Machine → List Event → List Out → Machine → Type 0
+Run before es [] now = now ≡ before
+Run before [] (out ∷ outs) now = ⊥
+Run before (e ∷ es) (out ∷ outs) now = (next : Machine) × Row before e.party e.act out next × Run next es outs now
+
+-- the entries by which events that were answered make the log longer
+abbrev pub all_claims : List Event → List Out → List Edge
+all_claims es [] = []
+all_claims [] (out ∷ outs) = []
+all_claims (e ∷ es) (out ∷ outs) = claims e.act out ++ all_claims es outs
+
+-- an event among those that were answered is a word read in its turn at p, which was found to be x
+pub record IsRead (events : List Event) (answers : List Out) (k p x : ℕ) : Type 0 where
+  pub party : ℕ
+  pub event : get_elem? events k ≡ some (record { party = party; act = LoadOrdered p })
+  pub answer : get_elem? answers k ≡ some (Word x)
+
+-- a party is a worker: it moves a front
+abbrev pub IsWorker : View → Type 0
+IsWorker v = (v.archives ≡ true) ⊎ (v.flushes ≡ true)
+
+-- among the events that were answered, the party read the word of p in its turn and found it there
+pub record HasTaken (slots : ℕ) (events : List Event) (answers : List Out) (i p : ℕ) : Type 0 where
+  pub place : ℕ
+  pub word : ℕ
+  pub event : get_elem? events place ≡ some (record { party = i; act = LoadOrdered p })
+  pub answer : get_elem? answers place ≡ some (Word word)
+  pub matched : is_matched slots p word ≡ true

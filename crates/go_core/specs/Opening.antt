@@ -1,0 +1,59 @@
+-- How a machine begins: nothing is claimed past the first position, and no slot matches its own.
+use Rattle.std.specs.Prelude.{◌≡◌, ℕ, ◌+◌, ◌<◌, ◌≤◌, Bool, true, false, List, [], length, slice_index}
+use Rattle.go_word.specs.Word.{blank_word}
+use Rattle.go_core.specs.declared.act.Role.{Role}
+use Rattle.go_core.specs.declared.act.Role.TheVariants.{Session, Archiver, Flusher}
+use Rattle.go_core.specs.declared.view.View.{View}
+use Rattle.go_core.specs.declared.party.Party.{Party}
+use Rattle.go_core.specs.Frame.{Frame, slot, head_in, archived_in, durable_in, flag_in}
+
+-- the words at the beginning: the log and both fronts end at the first position, no flag is raised, no turn is taken, and each slot waits for the position that it serves
+pub record AreOpening (f : Frame) (words : List ℕ) : Type 0 where
+  pub all_words : length words ≡ f.base + f.slots
+  pub head : head_in words ≡ f.first
+  pub archived : archived_in words ≡ f.first
+  pub durable : durable_in words ≡ f.first
+  pub flag : flag_in words ≡ 0
+  pub turns : (k : ℕ) → 4 ≤ k → k < f.base → slice_index words k ≡ 0
+  pub blanks : (p : ℕ) → f.first ≤ p → p < f.first + f.slots → slot f words p ≡ blank_word f.slots p
+
+-- the view of a party at the beginning
+abbrev pub opening_view : ℕ → Bool → Bool → View
+opening_view first archives flushes = record {
+  live = true;
+  archives = archives;
+  flushes = flushes;
+  seen = first;
+  taken = first;
+  head = first;
+  archived = first;
+  durable = first;
+  disk_raised = false;
+  memory_raised = false;
+  pending = [];
+  abandoned = [];
+  own = [];
+  joined = [];
+  loads = [];
+  marked = first;
+  fresh = false;
+}
+
+-- a role moves the archived front
+abbrev pub archives_as : Role → Bool
+archives_as Session = false
+archives_as Archiver = true
+archives_as Flusher = false
+
+-- a role moves the durable front
+abbrev pub flushes_as : Role → Bool
+flushes_as Session = false
+flushes_as Archiver = false
+flushes_as Flusher = true
+
+-- a party of a role at the beginning
+abbrev pub opening_party : ℕ → Role → Party
+opening_party first role = record {
+  view = opening_view first (archives_as role) (flushes_as role);
+  stake = record { pins = []; shard = first; file = first };
+}

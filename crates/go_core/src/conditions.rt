@@ -1,0 +1,80 @@
+// Whether a party may do an act.
+ghost use Rattle.std.specs.Prelude.{◌≡◌, ◌↔◌, ◌<◌, ◌≤◌, IsTrue, length, All, slice_index_or, true};
+ghost use Rattle.go_word.specs.Word.{IsStorable};
+ghost use Rattle.go_core.specs.Acts.{CanClaim, CanTake, CanArchive, CanJoin};
+ghost use Rattle.go_core.specs.Machine.{absent};
+
+use crate::party::{Party, Stake};
+use crate::view::View;
+use go_word::{Edge, ID_LIMIT};
+
+// The most positions that a log has.
+const POSITIONS: u64 = 1 << 48;
+
+// The most edges of one claim.
+const CLAIMED: usize = 64;
+
+// Whether there is a party of this number that takes part.
+pub(crate) fn is_live(parties: &[Party], i: usize) -> bool
+    ensures there { IsTrue result → i < length parties.now }
+    ensures live { IsTrue result ↔ ((slice_index_or parties.now i absent).view.live ≡ true) }
+{
+    i < parties.len() && parties[i].view.live
+}
+
+// Whether a word can hold the edge.
+fn is_storable(edge: &Edge) -> bool
+    ensures { IsTrue result ↔ IsStorable edge.now }
+{
+    u64::from(edge.src) < ID_LIMIT && u64::from(edge.dst) < ID_LIMIT
+}
+
+// Whether words can hold all of the edges.
+fn are_storable(edges: &[Edge]) -> bool
+    ensures { IsTrue result ↔ All IsStorable edges.now }
+{
+    for edge in edges {
+        if !is_storable(edge) {
+            return false;
+        }
+    }
+    true
+}
+
+// Whether the edges may be claimed.
+pub(crate) fn can_claim(words: &[u64], edges: &[Edge]) -> bool
+    requires { 4 ≤ length words.now }
+    ensures { IsTrue result ↔ CanClaim words.now edges.now }
+{
+    let count = edges.len();
+    1 <= count
+        && count <= CLAIMED
+        && words[0] <= POSITIONS
+        && words[0] + count as u64 <= POSITIONS
+        && are_storable(edges)
+}
+
+// Whether a worker may read the word of a position.
+pub(crate) fn can_take(words: &[u64], view: &View, at: u64) -> bool
+    requires { 4 ≤ length words.now }
+    ensures { IsTrue result ↔ CanTake words.now view.now at }
+{
+    let archives = view.archives && words[1] <= at;
+    let flushes = view.flushes && words[2] <= at;
+    (archives || flushes) && at <= view.taken
+}
+
+// Whether the archived front may be moved.
+pub(crate) fn can_archive(words: &[u64], view: &View, stake: &Stake, front: u64) -> bool
+    requires { 4 ≤ length words.now }
+    ensures { IsTrue result ↔ CanArchive words.now view.now stake.now front }
+{
+    view.archives && words[1] <= front && front <= view.taken && front <= stake.shard
+}
+
+// Whether a party may be joined into another.
+pub(crate) fn can_join(other: &View) -> bool
+    ensures { IsTrue result ↔ CanJoin other.now }
+{
+    other.live && !other.archives && !other.flushes && other.pending.is_empty()
+}

@@ -1,0 +1,37 @@
+// One step of a party, over the words and the parties.
+ghost use Rattle.std.specs.Prelude.{◌≡◌, ℕ, IfOk, OnErr};
+ghost use Rattle.go_core.specs.Machine.{Row, IsReady, machine_of};
+
+use crate::act::{Act, Event, Out};
+use crate::party::Party;
+use crate::{conditions, steps};
+use std::alloc::{AllocError, Global};
+
+// Does the step of one party, or refuses it.
+pub(crate) fn one(
+    alloc: Global,
+    slots: u64,
+    words: &mut Vec<u64>,
+    parties: &mut Vec<Party>,
+    event: &Event,
+) -> Result<Out, AllocError>
+    requires ready { IsReady (machine_of slots 0 words.old.items parties.old.items) event.now.party }
+    ensures row { IfOk result (λ out. (first : ℕ) → Row (machine_of slots first words.old.items parties.old.items) event.now.party event.now.act out (machine_of slots first words.new.items parties.new.items)) }
+    ensures err_words { OnErr result (words.new.items ≡ words.old.items) }
+    ensures err_parties { OnErr result (parties.new.items ≡ parties.old.items) }
+{
+    let i = event.party as usize;
+    if !conditions::is_live(parties, i) {
+        return Ok(Out::Refused);
+    }
+    match &event.act {
+        Act::Claim { edges } => steps::claim(alloc, words, parties, i, edges),
+        Act::LoadHead => Ok(steps::load_head(words, parties, i)),
+        Act::LoadArchived => steps::load_archived(alloc, words, parties, i),
+        Act::StoreWord { at } => steps::store_word(slots, words, parties, i, *at),
+        Act::LoadOrdered { at } => Ok(steps::load_ordered(slots, words, parties, i, *at)),
+        Act::StoreArchived { front } => Ok(steps::store_archived(words, parties, i, *front)),
+        Act::Split => steps::split(alloc, parties, i),
+        Act::Join { other } => steps::join(alloc, parties, i, *other as usize),
+    }
+}

@@ -1,0 +1,230 @@
+// The acts, each by its row: over the words and the parties alone.
+ghost use Rattle.std.specs.Prelude.{
+  ◌≡◌,
+  ℕ,
+  ◌+◌,
+  ◌^◌,
+  ◌<◌,
+  ◌≤◌,
+  ◌%◌,
+  List,
+  length,
+  slice_index_or,
+  true,
+  All,
+  IfOk,
+  OnErr,
+};
+ghost use Rattle.go_word.specs.Word.{IsStorable};
+ghost use Rattle.go_core.specs.declared.act.Act.TheVariants.{
+  Claim,
+  LoadHead,
+  LoadArchived,
+  StoreWord,
+  LoadOrdered,
+  StoreArchived,
+  Split,
+  Join,
+};
+ghost use Rattle.go_core.specs.Machine.{Row, machine_of, absent, IsLiveAt};
+
+use crate::act::Out;
+use crate::edges::EdgeSeq;
+use crate::party::Party;
+use crate::{conditions, lists};
+use go_word::{encode, matched};
+use std::alloc::{AllocError, Global};
+use std::mem;
+
+// The index of the first slot's word: after four words and two turns.
+const BASE: usize = 6;
+
+// There are no more parties than this.
+const PARTIES: usize = 0xFFFF_FFFF;
+
+// A claim.
+pub(crate) fn claim(
+    alloc: Global,
+    words: &mut Vec<u64>,
+    parties: &mut Vec<Party>,
+    i: usize,
+    edges: &EdgeSeq,
+) -> Result<Out, AllocError>
+    requires words { 4 ≤ length words.old.items }
+    requires live { IsLiveAt parties.old.items i }
+    ensures row { IfOk result (λ out. (slots first : ℕ) → Row (machine_of slots first words.old.items parties.old.items) i (Claim edges.now) out (machine_of slots first words.new.items parties.new.items)) }
+    ensures err_words { OnErr result (words.new.items ≡ words.old.items) }
+    ensures err_parties { OnErr result (parties.new.items ≡ parties.old.items) }
+{
+    let edges = edges.as_slice();
+    if !conditions::can_claim(words, edges) {
+        return Ok(Out::Refused);
+    }
+    let head = words[0];
+    let party = &mut parties[i];
+    party.view.claim(alloc, head, edges)?;
+    words[0] = head + edges.len() as u64;
+    Ok(Out::Number { value: head })
+}
+
+// A load of the log's length.
+pub(crate) fn load_head(words: &[u64], parties: &mut Vec<Party>, i: usize) -> Out
+    requires words { 4 ≤ length words.now }
+    requires live { IsLiveAt parties.old.items i }
+    ensures { (slots first : ℕ) → Row (machine_of slots first words.now parties.old.items) i LoadHead result (machine_of slots first words.now parties.new.items) }
+{
+    let head = words[0];
+    let party = &mut parties[i];
+    party.view.know_head(head);
+    Out::Number { value: head }
+}
+
+// A load of the archived front.
+pub(crate) fn load_archived(
+    alloc: Global,
+    words: &[u64],
+    parties: &mut Vec<Party>,
+    i: usize,
+) -> Result<Out, AllocError>
+    requires words { 4 ≤ length words.now }
+    requires live { IsLiveAt parties.old.items i }
+    ensures row { IfOk result (λ out. (slots first : ℕ) → Row (machine_of slots first words.now parties.old.items) i LoadArchived out (machine_of slots first words.now parties.new.items)) }
+    ensures err { OnErr result (parties.new.items ≡ parties.old.items) }
+{
+    let front = words[1];
+    let party = &mut parties[i];
+    party.view.know_archived(alloc, front)?;
+    Ok(Out::Number { value: front })
+}
+
+// The place of a position's word.
+fn place_of(slots: u64, at: u64) -> usize
+    requires some { 0 < slots }
+    requires few { slots ≤ 2 ^ 48 }
+    ensures value { result ≡ 6 + at % slots }
+    ensures within { result < 6 + slots }
+{
+    BASE + (at % slots) as usize
+}
+
+// A store of a word.
+pub(crate) fn store_word(
+    slots: u64,
+    words: &mut Vec<u64>,
+    parties: &mut Vec<Party>,
+    i: usize,
+    at: u64,
+) -> Result<Out, AllocError>
+    requires some { 0 < slots }
+    requires few { slots ≤ 2 ^ 48 }
+    requires words { length words.old.items ≡ 6 + slots }
+    requires live { IsLiveAt parties.old.items i }
+    requires storable { All (λ x. IsStorable x.edge) (slice_index_or parties.old.items i absent).view.pending }
+    ensures row { IfOk result (λ out. (first : ℕ) → Row (machine_of slots first words.old.items parties.old.items) i (StoreWord at) out (machine_of slots first words.new.items parties.new.items)) }
+    ensures err_words { OnErr result (words.new.items ≡ words.old.items) }
+    ensures err_parties { OnErr result (parties.new.items ≡ parties.old.items) }
+{
+    let party = &mut parties[i];
+    let front = party.view.archived.min(party.view.durable);
+    if slots <= at.saturating_sub(front) {
+        return Ok(Out::Refused);
+    }
+    let Some(entry) = lists::entry_at(&party.view.pending, at) else {
+        return Ok(Out::Refused);
+    };
+    party.view.store(entry)?;
+    words[place_of(slots, at)] = encode(entry.edge, at, slots);
+    Ok(Out::Done)
+}
+
+// A word read in its turn.
+pub(crate) fn load_ordered(
+    slots: u64,
+    words: &[u64],
+    parties: &mut Vec<Party>,
+    i: usize,
+    at: u64,
+) -> Out
+    requires some { 0 < slots }
+    requires few { slots ≤ 2 ^ 48 }
+    requires words { length words.now ≡ 6 + slots }
+    requires live { IsLiveAt parties.old.items i }
+    requires taken { (slice_index_or parties.old.items i absent).view.taken ≤ 2 ^ 48 }
+    ensures { (first : ℕ) → Row (machine_of slots first words.now parties.old.items) i (LoadOrdered at) result (machine_of slots first words.now parties.new.items) }
+{
+    let party = &mut parties[i];
+    if !conditions::can_take(words, &party.view, at) {
+        return Out::Refused;
+    }
+    let word = words[place_of(slots, at)];
+    if matched(word, at, slots) {
+        party.view.take(at);
+    } else {
+        party.view.stay();
+    }
+    Out::Word { word }
+}
+
+// A store of the archived front.
+pub(crate) fn store_archived(
+    words: &mut Vec<u64>,
+    parties: &mut Vec<Party>,
+    i: usize,
+    front: u64,
+) -> Out
+    requires words { 4 ≤ length words.old.items }
+    requires live { IsLiveAt parties.old.items i }
+    ensures { (slots first : ℕ) → Row (machine_of slots first words.old.items parties.old.items) i (StoreArchived front) result (machine_of slots first words.new.items parties.new.items) }
+{
+    let party = &mut parties[i];
+    if !conditions::can_archive(words, &party.view, &party.stake, front) {
+        return Out::Refused;
+    }
+    party.view.archive(front);
+    words[1] = front;
+    Out::Done
+}
+
+// A split of a new party.
+pub(crate) fn split(alloc: Global, parties: &mut Vec<Party>, i: usize) -> Result<Out, AllocError>
+    requires live { IsLiveAt parties.old.items i }
+    ensures row { IfOk result (λ out. (slots first : ℕ) (words : List ℕ) → Row (machine_of slots first words parties.old.items) i Split out (machine_of slots first words parties.new.items)) }
+    ensures err { OnErr result (parties.new.items ≡ parties.old.items) }
+{
+    let count = parties.len();
+    if PARTIES <= count {
+        return Ok(Out::Refused);
+    }
+    let new = parties[i].split_off(alloc);
+    parties.push(new)?;
+    let party = &mut parties[i];
+    party.view.stay();
+    Ok(Out::Number {
+        value: count as u64,
+    })
+}
+
+// A join of another party.
+pub(crate) fn join(
+    alloc: Global,
+    parties: &mut Vec<Party>,
+    i: usize,
+    j: usize,
+) -> Result<Out, AllocError>
+    requires live { IsLiveAt parties.old.items i }
+    ensures row { IfOk result (λ out. (slots first : ℕ) (words : List ℕ) → Row (machine_of slots first words parties.old.items) i (Join j) out (machine_of slots first words parties.new.items)) }
+    ensures err { OnErr result (parties.new.items ≡ parties.old.items) }
+{
+    if j == i || !conditions::is_live(parties, j) || !conditions::can_join(&parties[j].view) {
+        return Ok(Out::Refused);
+    }
+    let mut other = mem::replace(&mut parties[j], Party::absent(alloc));
+    let party = &mut parties[i];
+    match party.join(alloc, &mut other) {
+        Ok(()) => Ok(Out::Done),
+        Err(failed) => {
+            parties[j] = other;
+            Err(failed)
+        }
+    }
+}
