@@ -1,0 +1,2 @@
+-- The definitions of the benchmarks.
+pub mod Filled

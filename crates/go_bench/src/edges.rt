@@ -1,0 +1,68 @@
+// The edges of the benchmarks: a fixed sequence, an eighth of it deletions.
+ghost use Rattle.std.specs.Prelude.{◌≡◌, length, All, IfOk};
+ghost use Rattle.go_word.specs.Log.{IsWithin};
+ghost use Rattle.go_word.specs.Word.{IsStorable};
+
+use go_word::Edge;
+use std::alloc::{AllocError, Global};
+
+/// How many vertices there are.
+pub const VERTICES: u32 = 65536;
+
+/// How the edges lie: between all vertices with an eighth of deletions, or all at the vertex 0 with half of them.
+#[derive(Clone, Copy, Debug, PartialEq, Eq)]
+pub enum Shape {
+    Spread,
+    Hub,
+}
+
+/// The edges from the one of a number on, as many as told.
+pub fn edges_from(
+    alloc: Global,
+    shape: Shape,
+    first: u64,
+    count: usize,
+) -> Result<Vec<Edge>, AllocError>
+    ensures count { IfOk result (λ edges. length edges.items ≡ count) }
+    ensures within { IfOk result (λ edges. All (IsWithin 65536) edges.items) }
+    ensures storable { IfOk result (λ edges. All IsStorable edges.items) }
+{
+    let mut edges = Vec::with_capacity(alloc, count)?;
+    for i in 0..count {
+        let number = first.wrapping_add(i as u64);
+        let edge = match shape {
+            Shape::Spread => spread_edge(number),
+            Shape::Hub => hub_edge(number),
+        };
+        edges.push(edge)?;
+    }
+    Ok(edges)
+}
+
+// The edge of a number. Each eighth one deletes what the one four before it added.
+fn spread_edge(number: u64) -> Edge
+    ensures within { IsWithin 65536 result }
+    ensures storable { IsStorable result }
+{
+    let del = number % 8 == 7;
+    let place = if del { number - 4 } else { number };
+    let word = place.wrapping_mul(0x9E37_79B9_7F4A_7C15);
+    Edge {
+        del,
+        src: (word / 0x1_0000_0000 % 65536) as u32,
+        dst: (word / 0x1_0000_0000_0000) as u32,
+    }
+}
+
+// The edge of a number where all leave the vertex 0. Each second one deletes what an earlier one added.
+fn hub_edge(number: u64) -> Edge
+    ensures within { IsWithin 65536 result }
+    ensures storable { IsStorable result }
+{
+    let word = (number / 2).wrapping_mul(0x9E37_79B9_7F4A_7C15);
+    Edge {
+        del: number % 2 == 1,
+        src: 0,
+        dst: (word / 0x1_0000_0000_0000) as u32,
+    }
+}
