@@ -1,0 +1,6 @@
+-- What the contracts of disks cite.
+pub mod Disk
+pub mod Image
+pub mod MemDisk
+pub mod ImageLaws
+pub mod Recording
