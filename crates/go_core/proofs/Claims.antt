@@ -130,6 +130,7 @@ claim_keeps f log es words views i v there live storable tied =
             spent_else = λ dead. still_live v _ live dead;
             taken_from = s.taken_from;
             taken_to = s.taken_to;
+            marked_to = s.marked_to;
             seen_written = s.seen_written;
             head_to = s.head_to;
             archived_to = s.archived_to;

@@ -20,15 +20,15 @@ use Rattle.go_core.proofs.Loads.{still_live}
 use Rattle.go_core.proofs.Claims.{word_other, word_here}
 
 -- words of which the fronts alone moved, up to written positions
-record IsMoved (f : Frame) (log : List Edge) (words : List ℕ) (views : List View) (words' : List ℕ) : Type 0 where
-  as_many : length words' ≡ length words
-  head : head_in words' ≡ head_in words
-  flag : flag_in words' ≡ flag_in words
-  slots : (p : ℕ) → slot f words' p ≡ slot f words p
-  archived : archived_in words ≤ archived_in words'
-  durable : durable_in words ≤ durable_in words'
-  archived_written : (p : ℕ) → p < archived_in words' → IsWritten log views p
-  durable_written : (p : ℕ) → p < durable_in words' → IsWritten log views p
+pub record IsMoved (f : Frame) (log : List Edge) (words : List ℕ) (views : List View) (words' : List ℕ) : Type 0 where
+  pub as_many : length words' ≡ length words
+  pub head : head_in words' ≡ head_in words
+  pub flag : flag_in words' ≡ flag_in words
+  pub slots : (p : ℕ) → slot f words' p ≡ slot f words p
+  pub archived : archived_in words ≤ archived_in words'
+  pub durable : durable_in words ≤ durable_in words'
+  pub archived_written : (p : ℕ) → p < archived_in words' → IsWritten log views p
+  pub durable_written : (p : ℕ) → p < durable_in words' → IsWritten log views p
 
 -- a front up to written positions is within the log
 within_log : (log : List Edge) (views : List View) (front : ℕ) → ((p : ℕ) → p < front → IsWritten log views p) → front ≤ length log
@@ -49,7 +49,7 @@ next_lap f log words views p storable r from to written =
     ap (is_matched f.slots (p + f.slots)) (same ∙ is) ∙ is_matched-word_before f.slots p found.0 some_slots (storable p found.0 (omega arith) found.1)
 
 -- the clauses on the ring last where fronts move over written positions
-ringed_moved : (f : Frame) (log : List Edge) (words : List ℕ) (views : List View) (words' : List ℕ) → ((q : ℕ) (e : Edge) → f.first ≤ q → get_elem? log q ≡ some e → IsStorable e) → IsMoved f log words views words' → Ringed f log words views → Ringed f log words' views
+pub ringed_moved : (f : Frame) (log : List Edge) (words : List ℕ) (views : List View) (words' : List ℕ) → ((q : ℕ) (e : Edge) → f.first ≤ q → get_elem? log q ≡ some e → IsStorable e) → IsMoved f log words views words' → Ringed f log words views → Ringed f log words' views
 ringed_moved f log words views words' storable m r =
     let archived = m.archived in
     let durable = m.durable in
@@ -92,7 +92,7 @@ abbrev bit_of : Bool → ℕ
 bit_of b = cond b 1 0
 
 -- another party doesn't have a role that one has
-other_role : (g : View → Bool) (views : List View) (i j : ℕ) (v u : View) (P : Type 0) → j ≢ i → get_elem? views i ≡ some v → get_elem? views j ≡ some u → g v ≡ true → count_by g views ≤ 1 → g u ≡ true → P
+pub other_role : (g : View → Bool) (views : List View) (i j : ℕ) (v u : View) (P : Type 0) → j ≢ i → get_elem? views i ≡ some v → get_elem? views j ≡ some u → g v ≡ true → count_by g views ≤ 1 → g u ≡ true → P
 other_role g views i j v u P ne there at_j mine one theirs =
     let two : bit_of (g v) + bit_of (g u) ≤ count_by g views = terms-le (λ z. bit_of (g z)) views i j v u ne there at_j in
     let first : bit_of (g v) ≡ 1 = ap bit_of mine in
@@ -139,6 +139,7 @@ archived_stored f log words views i v front there live role from to tied =
       spent_else = λ dead. still_live v _ live dead;
       taken_from = s0.taken_from;
       taken_to = s0.taken_to;
+      marked_to = s0.marked_to;
       seen_written = s0.seen_written;
       head_to = s0.head_to;
       archived_to = s0.archived_to;
@@ -165,6 +166,7 @@ archived_stored f log words views i v front there live role from to tied =
             spent_else = λ dead. still_live v _ live dead;
             taken_from = s.taken_from;
             taken_to = s.taken_to;
+            marked_to = s.marked_to;
             seen_written = s.seen_written;
             head_to = s.head_to;
             archived_to = omega arith;

@@ -17,3 +17,5 @@ pub mod Parties
 pub mod Ready
 pub mod Runs
 pub mod Taken
+pub mod Durable
+pub mod Flags

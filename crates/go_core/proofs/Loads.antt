@@ -35,6 +35,7 @@ unmoved_keeps f log words views i v there live tied =
       spent_else = λ dead. still_live v _ live dead;
       taken_from = s.taken_from;
       taken_to = s.taken_to;
+      marked_to = s.marked_to;
       seen_written = s.seen_written;
       head_to = s.head_to;
       archived_to = s.archived_to;
@@ -62,6 +63,7 @@ head_loaded f log words views i v there live tied =
       spent_else = λ dead. still_live v _ live dead;
       taken_from = s.taken_from;
       taken_to = s.taken_to;
+      marked_to = s.marked_to;
       seen_written = s.seen_written;
       head_to = omega arith;
       archived_to = s.archived_to;
@@ -99,11 +101,16 @@ sound_assured f log words views marked front above l sound =
     either a b one two = rw (one, two) refl
 
 -- the loads after a load of the archived front
-loads_after : (f : Frame) (log : List Edge) (words : List ℕ) (views : List View) (front new old : ℕ) (ls : List Load) (fresh : Bool) → released words ≤ front → All (IsSound f log words views old) ls → All (IsSound f log words views (cond fresh new old)) (cond fresh [] (map (assured front) ls))
+pub loads_after : (f : Frame) (log : List Edge) (words : List ℕ) (views : List View) (front new old : ℕ) (ls : List Load) (fresh : Bool) → released words ≤ front → All (IsSound f log words views old) ls → All (IsSound f log words views (cond fresh new old)) (cond fresh [] (map (assured front) ls))
 loads_after f log words views front new old ls true above all = All-nil (IsSound f log words views new)
 loads_after f log words views front new old ls false above all =
     All-map (IsSound f log words views old) (assured front) ls
     (All-weaker (IsSound f log words views old) (λ l. IsSound f log words views old (assured front l)) (λ l sound. sound_assured f log words views old front above l sound) ls all)
+
+-- the noted seen length stays within the seen one
+marked_after : (seen front marked : ℕ) (fresh : Bool) → marked ≤ seen → cond fresh (max seen front) marked ≤ max seen front
+marked_after seen front marked true noted = omega arith
+marked_after seen front marked false noted = omega arith
 
 -- a load of the archived front
 pub archived_loaded : (f : Frame) (log : List Edge) (words : List ℕ) (views : List View) (i : ℕ) (v : View) → get_elem? views i ≡ some v → v.live ≡ true → TiedBy f log words views → TiedBy f log words (set views i (knowing_archived (archived_in words) v))
@@ -117,6 +124,7 @@ archived_loaded f log words views i v there live tied =
       spent_else = λ dead. still_live v _ live dead;
       taken_from = s.taken_from;
       taken_to = omega arith;
+      marked_to = marked_after v.seen front v.marked v.fresh s.marked_to;
       seen_written = λ p less. ⊎_elim (λ seen. s.seen_written p seen) (λ below. tied.ringed.archived_written p below) (below_max p v.seen front less);
       head_to = s.head_to;
       archived_to = omega arith;
@@ -217,6 +225,7 @@ taken_next f log words views i v p there live up_to written tied =
       spent_else = λ dead. still_live v _ live dead;
       taken_from = λ l. let old = s.taken_from l in omega arith;
       taken_to = omega arith;
+      marked_to = let noted = s.marked_to in omega arith;
       seen_written = λ q less.
           ⊎_elim (λ seen. s.seen_written q seen)
           (λ (next : q < p + 1).

@@ -56,6 +56,7 @@ module _ (f : Frame) (log : List Edge) (words : List ℕ) (views : List View) (l
         spent_else = s.spent_else;
         taken_from = s.taken_from;
         taken_to = s.taken_to;
+        marked_to = s.marked_to;
         seen_written = λ p seen. on.written p (s.seen_written p seen);
         head_to = let longer = on.longer in let old = s.head_to in omega arith;
         archived_to = let up = on.archived in let old = s.archived_to in omega arith;

@@ -46,6 +46,7 @@ seated_opening f log words views archives flushes o from written =
       spent_else = λ dead. absurd (apart dead);
       taken_from = λ live. omega arith;
       taken_to = omega arith;
+      marked_to = omega arith;
       seen_written = written;
       head_to = from;
       archived_to = omega arith;

@@ -156,6 +156,7 @@ store_keeps f log words views i v x there live contained room tied =
             spent_else = λ dead. still_live v _ live dead;
             taken_from = s.taken_from;
             taken_to = s.taken_to;
+            marked_to = s.marked_to;
             seen_written = s.seen_written;
             head_to = s.head_to;
             archived_to = s.archived_to;

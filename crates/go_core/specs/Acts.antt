@@ -29,6 +29,23 @@ pub record CanArchive (words : List ℕ) (v : View) (stake : Stake) (front : ℕ
   pub taken : front ≤ v.taken
   pub stood : front ≤ stake.shard
 
+-- the durable front may be moved: by its worker, over what that took and what the file is known to have
+pub record CanFlush (words : List ℕ) (v : View) (stake : Stake) (front : ℕ) : Type 0 where
+  pub role : v.flushes ≡ true
+  pub onward : durable_in words ≤ front
+  pub taken : front ≤ v.taken
+  pub stood : front ≤ stake.file
+
+-- a word may be read ahead of its turn: within the window that the party knows, and below the length that it knows
+pub record CanReadAhead (f : Frame) (v : View) (at : ℕ) : Type 0 where
+  pub from : min v.archived v.durable ≤ at
+  pub to : at < min v.archived v.durable + f.slots
+  pub within : at < v.head
+
+-- why the flag may be raised: 1 is the disk, 2 is want of memory
+abbrev pub IsCause : ℕ → Type 0
+IsCause why = (why ≡ 1) ⊎ (why ≡ 2)
+
 -- another party may be joined in: a live session that owes no word
 pub record CanJoin (other : View) : Type 0 where
   pub live : other.live ≡ true

@@ -3,5 +3,6 @@ pub mod Acts
 pub mod Frame
 pub mod Machine
 pub mod Opening
+pub mod Parts
 pub mod Rule
 pub mod View

@@ -59,6 +59,7 @@ pub record Seated (f : Frame) (log : List Edge) (words : List ℕ) (views : List
   pub spent_else : v.live ≡ false → v ≡ spent
   pub taken_from : v.live ≡ true → f.first ≤ v.taken
   pub taken_to : v.taken ≤ v.seen
+  pub marked_to : v.marked ≤ v.seen
   pub seen_written : (p : ℕ) → p < v.seen → IsWritten log views p
   pub head_to : v.head ≤ length log
   pub archived_to : v.archived ≤ archived_in words

@@ -109,6 +109,22 @@ archiving front v = record v { archived = front; fresh = false }
 abbrev pub flushing : ℕ → View → View
 flushing front v = record v { durable = front; fresh = false }
 
+-- after a load of the durable front
+abbrev pub knowing_durable : ℕ → View → View
+knowing_durable front v = record v { durable = front; seen = max v.seen front; loads = map (assured front) v.loads; fresh = false }
+
+-- after a word was read ahead of its turn
+abbrev pub read_ahead : ℕ → ℕ → View → View
+read_ahead p word v = record v { loads = v.loads ++ record { at = p; word = word; sure = false } ∷ []; fresh = false }
+
+-- after a store of the flag, by its cause: 1 is the disk, 2 is want of memory
+abbrev pub raising : ℕ → View → View
+raising why v = record v { disk_raised = v.disk_raised || (why == 1); memory_raised = v.memory_raised || (why == 2); fresh = false }
+
+-- after the flag was seen raised and a pending entry was given up
+abbrev pub abandoning : Entry → View → View
+abandoning x v = record v { pending = without x.at v.pending; abandoned = v.abandoned ++ x ∷ []; fresh = false }
+
 -- what a new party has, which is split off: what the old one has seen, taken and known
 abbrev pub split_off : View → View
 split_off v =
