@@ -73,11 +73,12 @@ fn what_was_at_a_front_stays(rt: HostRuntime) -> Result<(), Fail> {
     Ok(())
 }
 
+// The batch needs memory for vertex 5, which it names last and the shard has no entries of.
 #[test]
 fn a_refused_batch_changes_nothing(rt: HostRuntime) -> Result<(), Fail> {
     let mut shard = begun(rt.alloc())?;
-    match shard.append(&[del(1, 2), add(1, 3)], 6) {
-        Ok(()) => assert_eq!(rt; shard.degree_at(1, 6), 4),
+    match shard.append(&[add(1, 3), add(5, 1)], 6) {
+        Ok(()) => assert_eq!(rt; shard.degree_at(1, 6), 3),
         Err(_) => {
             assert_eq!(rt; shard.front(), 3);
             assert_eq!(rt; shard.degree_at(1, 3), 2);
