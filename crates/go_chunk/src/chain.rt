@@ -140,6 +140,17 @@ impl Chain {
         }
     }
 
+    /// Puts words behind the others, in their order.
+    pub fn extend_from_slice(&mut self, words: &[u64])
+        requires { length words.now ≤ self.old.spare }
+        ensures added { self.new.words ≡ self.old.words ++ words.now }
+        ensures falls { self.new.spare + length words.now ≡ self.old.spare }
+    {
+        for word in words {
+            self.push(*word);
+        }
+    }
+
     /// Appends the first `k` words to `out`, which is as before where memory is refused.
     pub fn copy_front(&self, k: usize, out: &mut Vec<u64>) -> Result<(), AllocError>
         requires { k ≤ length self.now.words }
@@ -222,6 +233,24 @@ mod tests {
         }
         assert_eq!(rt; chain.spare(), spare - 597);
         assert_eq!(rt; chain.len(), 597);
+        Ok(())
+    }
+
+    #[test]
+    fn a_slice_goes_behind_what_is_there(rt: HostRuntime) -> Result<(), Fail> {
+        let mut chain = counted(&rt, 3)?;
+        chain.reserve(4)?;
+        let spare = chain.spare();
+        assert!(rt; spare >= 4);
+        chain.extend_from_slice(&[30, 40, 50, 60]);
+        assert_eq!(rt; chain.spare(), spare - 4);
+        assert_eq!(rt; chain.len(), 7);
+        for (i, word) in [(0, 0), (2, 2), (3, 30), (4, 40), (6, 60)] {
+            assert!(rt; i < chain.len());
+            assert_eq!(rt; chain.get(i), word, "at {i}");
+        }
+        chain.extend_from_slice(&[]);
+        assert_eq!(rt; chain.len(), 7);
         Ok(())
     }
 

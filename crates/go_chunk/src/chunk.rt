@@ -6,8 +6,9 @@ use std::marker::Model;
 /// Up to `C` words in place, in the order in which they were pushed.
 #[derive(Drop)]
 pub struct Chunk<const C: usize> {
-    words: [u64; C],
+    // In front of the words, so that it lies beside the first of them.
     used: usize,
+    words: [u64; C],
 }
 
 impl<const C: usize> Model for Chunk<C> {
@@ -26,8 +27,8 @@ impl<const C: usize> Chunk<C> {
         ensures { result ≡ [] }
     {
         Chunk {
-            words: [0; C],
             used: 0,
+            words: [0; C],
         }
     }
 
