@@ -1,7 +1,7 @@
 -- The versions at or below a front are the first ones, and the last of them tells the count.
-use Rattle.std.proofs.Common.{◌≡◌, ◌≢◌, ℕ, zero, suc, ◌+◌, ◌-◌, ◌<◌, ◌≤◌, List, [], ◌∷◌, ◌++◌, length, get_or, take, drop, Bool, true, false, cond, refl, sym, ap, subst, ◌∙◌, arith, All, count_by, append-nil, drop-cons, length-drop, inl, inr}
+use Rattle.std.proofs.Common.{◌≡◌, ◌≢◌, ℕ, zero, suc, ◌+◌, ◌-◌, ◌<◌, ◌≤◌, List, [], ◌∷◌, ◌++◌, length, get_or, take, drop, Bool, true, false, cond, refl, sym, ap, subst, ◌∙◌, arith, All, count_by, append-nil, drop-cons, length-drop, inl, inr, min, length-append, append_assoc}
 use Rattle.std.proofs.lemmas.Bool.{le-leb, leb-true, leb-false, cases_lt}
-use Rattle.std.proofs.lemmas.List.{take-append-drop, length-take-le, get_or-drop, take_at}
+use Rattle.std.proofs.lemmas.List.{get_or_append_left, get_or-append_right, take-append-drop, length-take-le, get_or-drop, take_at}
 use Rattle.std.proofs.lemmas.List.Elements.{filter-append}
 use Rattle.std.proofs.lemmas.List.Quantifiers.{all_pairs_push}
 use Rattle.std.proofs.lemmas.List.Sums.{length-filter}
@@ -150,3 +150,69 @@ has_retired front slice vs left i same bound parts left_is =
       few = rw left_is (count_by-kept front vs i found.0 found.1);
       at = λ f le. ap (λ l. count_at l f) left_is ∙ count_at-kept front f vs i found.0 found.1 le;
     }
+
+-- the first part of a rising list rises
+pub IsRising-left : (xs ys : List Version) → IsRising (xs ++ ys) → IsRising xs
+IsRising-left xs ys h = λ i j d lt inside.
+    let long : length (xs ++ ys) ≡ length xs + length ys = length-append xs ys in
+    subst (λ (v : Version). IsBefore v (get_or xs j d)) (get_or_append_left xs ys d i (omega arith)) (subst (λ (v : Version). IsBefore (get_or (xs ++ ys) i d) v) (get_or_append_left xs ys d j inside) (h i j d lt (omega (arith, long))))
+
+-- and so does what follows it
+pub IsRising-right : (xs ys : List Version) → IsRising (xs ++ ys) → IsRising ys
+IsRising-right xs ys h = λ i j d lt inside.
+    let long : length (xs ++ ys) ≡ length xs + length ys = length-append xs ys in
+    let at : (k : ℕ) → get_or (xs ++ ys) (length xs + k) d ≡ get_or ys k d = λ k. get_or-append_right xs ys (length xs) (length xs + k) d refl (omega arith) ∙ ap (λ n. get_or ys n d) (let n : length xs + k - length xs ≡ k = omega arith in n) in
+    subst (λ (v : Version). IsBefore v (get_or ys j d)) (at i) (subst (λ (v : Version). IsBefore (get_or (xs ++ ys) (length xs + i) d) v) (at j) (h (length xs + i) (length xs + j) d (omega arith) (omega (arith, long))))
+
+-- where some of what follows reaches a front, all of the first part does
+pub PartsAt-both : (front : ℕ) (xs ys : List Version) (j : ℕ) → IsRising (xs ++ ys) → j ≤ length ys → j ≢ 0 → PartsAt front ys j → PartsAt front (xs ++ ys) (length xs + j)
+PartsAt-both front xs ys j rises short some h =
+    let long : length (xs ++ ys) ≡ length xs + length ys = length-append xs ys in
+    let later : (k : ℕ) (d : Version) → length xs ≤ k → get_or (xs ++ ys) k d ≡ get_or ys (k - length xs) d = λ k d le. get_or-append_right xs ys (length xs) k d refl le in (
+      (λ k d low high. elim (cases_lt k (length xs)) [
+        | inl early ↦
+            let before : IsBefore (get_or (xs ++ ys) k d) (get_or (xs ++ ys) (length xs) d) = rises k (length xs) d early (omega (arith, long, some, short)) in
+            let first : (get_or ys (length xs - length xs) d).front ≤ front = h.0 (length xs - length xs) d (omega arith) (omega (arith, some)) in
+            let same : (get_or (xs ++ ys) (length xs) d).front ≡ (get_or ys (length xs - length xs) d).front = ap (λ v. v.front) (later (length xs) d (omega arith)) in
+            omega (arith, before.front, first, same)
+        | inr behind ↦
+            let here : (get_or ys (k - length xs) d).front ≤ front = h.0 (k - length xs) d (omega arith) (omega (arith, behind, high)) in
+            let same : (get_or (xs ++ ys) k d).front ≡ (get_or ys (k - length xs) d).front = ap (λ v. v.front) (later k d behind) in
+            omega (arith, here, same)
+      ]),
+      λ k d low high.
+          let here : front < (get_or ys (k - length xs) d).front = h.1 (k - length xs) d (omega arith) (omega (arith, long)) in
+          let same : (get_or (xs ++ ys) k d).front ≡ (get_or ys (k - length xs) d).front = ap (λ v. v.front) (later k d (omega arith)) in
+          omega (arith, here, same),
+    )
+
+-- a version behind the first ones, where no later ones are, is the last
+pub pushed_early : (early noted now new : List Version) (v : Version) → early ++ noted ≡ now → length noted ≡ 0 → new ≡ early ++ v ∷ [] → new ++ noted ≡ now ++ v ∷ []
+pushed_early early [] now new v is none more = append-nil new ∙ more ∙ ap (λ l. l ++ v ∷ []) (sym (append-nil early) ∙ is)
+pushed_early early (x ∷ xs) now new v is none more = absurd (omega arith)
+
+-- and so is one behind the later ones
+pub pushed_later : (early noted now new : List Version) (v : Version) → early ++ noted ≡ now → new ≡ noted ++ v ∷ [] → early ++ new ≡ now ++ v ∷ []
+pushed_later early noted now new v is more = ap (λ l. early ++ l) more ∙ sym (append_assoc early noted (v ∷ [])) ∙ ap (λ l. l ++ v ∷ []) is
+
+-- a list with a later version at its end rises
+pub rises_pushed : (now all : List Version) (v : Version) (front count : ℕ) → v ≡ record { front = front; count = count } → all ≡ now ++ v ∷ [] → IsRising now → All (λ w. w.front < front) now → All (λ w. w.count ≤ count) now → IsRising all
+rises_pushed now all v front count is longer rises later more =
+    subst IsRising (sym (longer ∙ ap (λ w. now ++ w ∷ []) is)) (IsRising-push now (record { front = front; count = count }) rises later more)
+
+-- and tells its count from its front on
+pub count_at-pushed : (now all : List Version) (v : Version) (front count f : ℕ) → v ≡ record { front = front; count = count } → all ≡ now ++ v ∷ [] → count_at all f ≡ cond (reaches f (record { front = front; count = count })) count (count_at now f)
+count_at-pushed now all v front count f is longer =
+    ap (λ l. count_at l f) (longer ∙ ap (λ w. now ++ w ∷ []) is) ∙ count_at-push now (record { front = front; count = count }) f
+
+-- two parts without their first versions are the whole without them
+drop-both : (xs ys : List Version) (n m : ℕ) → m ≡ min n (length xs) → drop m xs ++ drop (n - m) ys ≡ drop n (xs ++ ys)
+drop-both [] ys n m is = let none : m ≡ 0 = omega arith in let all : n - 0 ≡ n = omega arith in rw (none, all) refl
+drop-both (x ∷ xs) ys zero m is = let none : m ≡ 0 = omega arith in rw none refl
+drop-both (x ∷ xs) ys (suc n) zero is = absurd (omega arith)
+drop-both (x ∷ xs) ys (suc n) (suc m) is =
+    let left : suc n - suc m ≡ n - m = omega arith in
+    rw left (drop-both xs ys n m (omega arith))
+
+pub dropped_both : (xs ys xs' ys' now : List Version) (n m : ℕ) → xs ++ ys ≡ now → m ≡ min n (length xs) → xs' ≡ drop m xs → ys' ≡ drop (n - m) ys → xs' ++ ys' ≡ drop n now
+dropped_both xs ys xs' ys' now n m is counted one two = rw (one, two) (drop-both xs ys n m counted ∙ ap (drop n) is)

@@ -10,6 +10,7 @@
 //! Left out: a version can't be changed or taken back, and nothing is answered below the retired front.
 #![tactic(auto)]
 
+mod few;
 mod search;
 mod version;
 mod versions;

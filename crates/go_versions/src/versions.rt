@@ -1,7 +1,10 @@
 //! The versions of one number, by front.
-ghost use Rattle.std.specs.Prelude.{◌≡◌, ℕ, ◌<◌, ◌≤◌, ◌+◌, ◌-◌, ◌∷◌, ◌++◌, [], All, IsOk, OnOk, count_by, drop, if◌then◌else◌, nat_le, vec_capacity, vec_len, IfOk};
+ghost use Rattle.std.specs.Prelude.{◌≡◌, ℕ, ◌<◌, ◌≤◌, ◌+◌, ◌-◌, ◌∷◌, ◌++◌, [], All, IsOk, OnOk, count_by, drop, length, slice_index_or, if◌then◌else◌, nat_le, vec_capacity, vec_len, IfOk};
+ghost use Rattle.std.specs.List.Sorted.{IsPartitionPoint};
+ghost use Rattle.go_versions.specs.Version.{Version};
 ghost use Rattle.go_versions.specs.History.{reaches, count_at, IsRising};
 
+use crate::few::{FEW, Few};
 use crate::search::reached;
 use crate::version::StoredVersion;
 use std::alloc::{AllocError, Global};
@@ -10,24 +13,28 @@ use std::marker::Model;
 /// What a number was at each front that was noted and is still answered for.
 #[derive(Drop)]
 pub struct Versions {
+    // the later ones
     noted: Vec<StoredVersion>,
+    // the first ones
+    early: Few,
     retired: u64,
 }
 
 impl Model for Versions {
     ghost use Rattle.go_versions.specs.History.{History, IsRising};
+    ghost use Rattle.go_versions.specs.Room.{room_of};
 
     ghost Value = { History };
 
-    ghost use Rattle.std.specs.Prelude.{◌-◌, vec_capacity, vec_len};
+    ghost use Rattle.std.specs.Prelude.{◌++◌, length, vec_capacity, vec_len};
 
     ghost view = { λ held. record {
-      versions = held.noted.items;
+      versions = held.early ++ held.noted.items;
       retired = held.retired;
-      spare = vec_capacity held.noted - vec_len held.noted;
+      spare = room_of (length held.early) (vec_len held.noted) (vec_capacity held.noted);
     } };
 
-    ghost invariant = { λ held. IsRising held.noted.items };
+    ghost invariant = { λ held. IsRising (held.early ++ held.noted.items) };
 }
 
 impl Versions {
@@ -38,6 +45,7 @@ impl Versions {
     {
         Versions {
             noted: Vec::new(alloc),
+            early: Few::new(),
             retired: 0,
         }
     }
@@ -50,6 +58,9 @@ impl Versions {
         ensures retired { self.new.retired ≡ self.old.retired }
         ensures never_less { self.old.spare ≤ self.new.spare }
     {
+        if self.noted.is_empty() && self.early.len() < FEW {
+            return Ok(());
+        }
         self.noted.reserve(1)
     }
 
@@ -66,7 +77,12 @@ impl Versions {
         ensures at { (f : ℕ) → count_at self.new.versions f
             ≡ (if nat_le front f then count else count_at self.old.versions f) }
     {
-        self.noted.push_reserved(StoredVersion::new(front, count));
+        let version = StoredVersion::new(front, count);
+        if self.noted.is_empty() && self.early.len() < FEW {
+            self.early.push(version);
+        } else {
+            self.noted.push_reserved(version);
+        }
     }
 
     /// The number at the front: the count of the greatest front at or below it that was noted.
@@ -75,11 +91,11 @@ impl Versions {
         ensures count { result ≡ count_at self.now.versions front }
         ensures rising { IsRising self.now.versions }
     {
-        let reached = reached(&self.noted, front);
+        let reached = self.reached(front);
         if reached == 0 {
             0
         } else {
-            self.noted[reached - 1].count()
+            self.count_of(reached - 1)
         }
     }
 
@@ -92,9 +108,37 @@ impl Versions {
         ensures at { (f : ℕ) → front ≤ f → count_at self.new.versions f ≡ count_at self.old.versions f }
         ensures never_less { self.old.spare ≤ self.new.spare }
     {
-        let reached = reached(&self.noted, front);
-        drop_front(&mut self.noted, reached.saturating_sub(1));
+        let given_up = self.reached(front).saturating_sub(1);
+        let early = given_up.min(self.early.len());
+        self.early.drop_front(early);
+        drop_front(&mut self.noted, given_up - early);
         self.retired = front;
+    }
+
+    // How many versions stand at or below the front: these are the first ones.
+    fn reached(&self, front: u64) -> usize
+        ensures bound { result ≤ length self.now.versions }
+        ensures parts { IsPartitionPoint (λ v. v.front ≤ front) (λ v. front < v.front) self.now.versions result }
+        ensures rising { IsRising self.now.versions }
+    {
+        let later = reached(&self.noted, front);
+        if later == 0 {
+            reached(self.early.versions(), front)
+        } else {
+            self.early.len() + later
+        }
+    }
+
+    // The count of the version at this place.
+    fn count_of(&self, place: usize) -> u32
+        requires { place < length self.now.versions }
+        ensures { (d : Version) → result ≡ (slice_index_or self.now.versions place d).count }
+    {
+        if place < self.early.len() {
+            self.early.versions()[place].count()
+        } else {
+            self.noted[place - self.early.len()].count()
+        }
     }
 }
 
@@ -115,9 +159,11 @@ mod tests {
     use super::*;
     use std::test::Fail;
 
-    // Fronts 3, 6 and 9 with counts 2, 4 and 4.
+    // Fronts 3, 6, 9 and 11 with counts 2, 4, 4 and 4: as many as lie in place.
     fn noted(rt: &HostRuntime) -> Result<Versions, Fail>
-        ensures { IfOk result (λ v. v.retired ≡ 0) }
+        ensures retired { IfOk result (λ v. v.retired ≡ 0) }
+        ensures fronts { IfOk result (λ v. All (λ w. w.front ≤ 11) v.versions) }
+        ensures counts { IfOk result (λ v. All (λ w. w.count ≤ 4) v.versions) }
     {
         let mut versions = Versions::new(rt.alloc());
         versions.reserve()?;
@@ -126,6 +172,8 @@ mod tests {
         versions.note(6, 4);
         versions.reserve()?;
         versions.note(9, 4);
+        versions.reserve()?;
+        versions.note(11, 4);
         Ok(versions)
     }
 
@@ -162,6 +210,22 @@ mod tests {
                 );
             }
             assert_eq!(rt; versions.at(retired), before.at(retired), "at {retired}");
+        }
+        Ok(())
+    }
+
+    #[test]
+    fn more_versions_than_lie_in_place_are_kept(rt: HostRuntime) -> Result<(), Fail> {
+        let mut versions = noted(&rt)?;
+        versions.reserve()?;
+        versions.note(15, 7);
+        for (front, count) in [(2, 0), (3, 2), (11, 4), (14, 4), (15, 7), (99, 7)] {
+            assert_eq!(rt; versions.at(front), count, "at {front}");
+        }
+        versions.retire(13);
+        for (front, count) in [(13, 4), (15, 7), (99, 7)] {
+            assert!(rt; 13 <= front);
+            assert_eq!(rt; versions.at(front), count, "at {front}, retired");
         }
         Ok(())
     }

@@ -1,12 +1,29 @@
--- The new version tells the count from its front on.
-use Rattle.std.proofs.Common.{◌++◌, ◌∷◌, [], if◌then◌else◌, nat_le, ap, ◌∙◌}
-use Rattle.go_versions.specs.History.{count_at}
-use Rattle.go_versions.proofs.HistoryLemmas.{count_at-push}
+-- The new version is the last, wherever it lies, and tells the count from its front on.
+use Rattle.std.proofs.Common.{◌≡◌, ◌++◌, ◌∷◌, [], ℕ, List, length, sym, ap, subst, ◌∙◌, arith}
+use Rattle.std.proofs.lemmas.Grind.{common_steps}
+use Rattle.go_versions.specs.Version.{Version}
+use Rattle.go_versions.specs.History.{IsRising}
+use Rattle.go_versions.proofs.HistoryLemmas.{pushed_early, pushed_later, rises_pushed, count_at-pushed}
 use Rattle.go_versions.proofs.versions.Versions.note.Goals as goal
 
-pub returns-clause-at : goal.returns-clause-at
-returns-clause-at c f =
-    ap (λ l. count_at l f) c.push_reserved.ensures.items
-    ∙ ap (λ v. count_at (c.self.inside.noted.items ++ v ∷ []) f) c.new.ensures
-    ∙ count_at-push c.self.inside.noted.items (record { front = c.args.front; count = c.args.count }) f
-    ∙ ap (λ v. if nat_le c.args.front f then c.args.count else count_at v.versions f) c.self.view_is
+pub invariant_of-self : goal.invariant_of-self
+invariant_of-self c =
+    let none : length c.self.inside.noted.items ≡ 0 = grind (arith, common_steps) in
+    let all = pushed_early c.self.inside.early c.self.inside.noted.items c.args.self.now.versions c.push.new.self c.new-version.result (ap (λ v. v.versions) c.self.view_is) none c.push.ensures in
+    rises_pushed c.args.self.now.versions (c.push.new.self ++ c.self.inside.noted.items) c.new-version.result c.args.front c.args.count c.new-version.ensures all (subst IsRising (ap (λ v. v.versions) c.self.view_is) c.self.invariant) c.requires.later c.requires.no_less
+
+pub invariant_of-self-else-is_empty : goal.invariant_of-self-else-is_empty
+invariant_of-self-else-is_empty c =
+    let all = pushed_later c.self.inside.early c.self.inside.noted.items c.args.self.now.versions c.push_reserved.new.self.items c.new-version.result (ap (λ v. v.versions) c.self.view_is) c.push_reserved.ensures.items in
+    rises_pushed c.args.self.now.versions (c.self.inside.early ++ c.push_reserved.new.self.items) c.new-version.result c.args.front c.args.count c.new-version.ensures all (subst IsRising (ap (λ v. v.versions) c.self.view_is) c.self.invariant) c.requires.later c.requires.no_less
+
+pub returns-then-len-lt-FEW-clause-at : goal.returns-then-len-lt-FEW-clause-at
+returns-then-len-lt-FEW-clause-at c f =
+    let none : length c.self.inside.noted.items ≡ 0 = grind (arith, common_steps) in
+    let all = pushed_early c.self.inside.early c.self.inside.noted.items c.args.self.now.versions c.push.new.self c.new-version.result (ap (λ v. v.versions) c.self.view_is) none c.push.ensures in
+    count_at-pushed c.args.self.now.versions (c.push.new.self ++ c.self.inside.noted.items) c.new-version.result c.args.front c.args.count f c.new-version.ensures all
+
+pub returns-else-is_empty-clause-at : goal.returns-else-is_empty-clause-at
+returns-else-is_empty-clause-at c f =
+    let all = pushed_later c.self.inside.early c.self.inside.noted.items c.args.self.now.versions c.push_reserved.new.self.items c.new-version.result (ap (λ v. v.versions) c.self.view_is) c.push_reserved.ensures.items in
+    count_at-pushed c.args.self.now.versions (c.self.inside.early ++ c.push_reserved.new.self.items) c.new-version.result c.args.front c.args.count f c.new-version.ensures all

@@ -1,0 +1,77 @@
+//! The first versions, in place.
+ghost use Rattle.std.specs.Prelude.{◌≡◌, ◌<◌, ◌≤◌, ◌++◌, ◌∷◌, [], length, drop};
+
+use crate::version::StoredVersion;
+use std::marker::Model;
+
+/// How many versions lie in place.
+pub(crate) const FEW: usize = 4;
+
+/// Up to four versions in place, in the order in which they were pushed.
+#[derive(Drop)]
+pub(crate) struct Few {
+    used: usize,
+    versions: [StoredVersion; FEW],
+}
+
+impl Model for Few {
+    ghost use Rattle.std.specs.Prelude.{List, take};
+    ghost use Rattle.go_versions.specs.Room.{IsFew};
+    ghost use Rattle.go_versions.specs.Version.{Version};
+
+    ghost Value = { List Version };
+
+    ghost view = { λ few. take few.used few.versions };
+
+    ghost invariant = { λ few. IsFew few.used few.versions };
+}
+
+impl Few {
+    /// No version.
+    pub(crate) fn new() -> Few
+        ensures { result ≡ [] }
+    {
+        Few {
+            used: 0,
+            versions: [
+                StoredVersion::new(0, 0),
+                StoredVersion::new(0, 0),
+                StoredVersion::new(0, 0),
+                StoredVersion::new(0, 0),
+            ],
+        }
+    }
+
+    /// How many versions there are, at most `FEW`.
+    pub(crate) fn len(&self) -> usize
+        ensures count { result ≡ length self.now }
+        ensures within { result ≤ 4 }
+    {
+        self.used
+    }
+
+    /// The versions, in order.
+    pub(crate) fn versions(&self) -> &[StoredVersion]
+        ensures { result.now ≡ self.now }
+    {
+        &self.versions[..self.used]
+    }
+
+    /// Puts a version behind the others.
+    pub(crate) fn push(&mut self, version: StoredVersion)
+        requires { length self.old < 4 }
+        ensures { self.new ≡ self.old ++ version ∷ [] }
+    {
+        self.versions[self.used] = version;
+        self.used += 1;
+    }
+
+    /// Takes out the first `count` versions.
+    pub(crate) fn drop_front(&mut self, count: usize)
+        requires { count ≤ length self.old }
+        ensures { self.new ≡ drop count self.old }
+    {
+        self.versions[..self.used].rotate_left(count);
+        self.used -= count;
+    }
+}
