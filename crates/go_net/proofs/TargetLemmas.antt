@@ -1,11 +1,12 @@
 -- Lemmas on targets: rising lists, and what is looked up in them.
-use Rattle.std.proofs.Common.{◌≡◌, ℕ, ◌<◌, ◌≤◌, List, length, get_or, arith, refl, true, eqb}
+use Rattle.std.proofs.Common.{◌≡◌, ℕ, zero, suc, ◌+◌, ◌<◌, ◌≤◌, List, [], ◌∷◌, ◌++◌, ap, sym, ◌∙◌, add-one, length, get_or, arith, refl, true, eqb}
 use Rattle.std.proofs.lemmas.List.Kept.{AllPairs-from_increasing}
 use Rattle.std.proofs.lemmas.List.Sorted.{searched}
 use Rattle.std.proofs.lemmas.Grind.{get_or_default_zero}
 use Rattle.std.specs.Prelude.{Contains, Result, Ok, Err, MatchOption}
 use Rattle.std.specs.Ordering.{nat_cmp}
-use Rattle.std.specs.List.{dedup}
+use Rattle.std.specs.List.{dedup, range_with_len, All}
+use Rattle.std.proofs.lemmas.List.FromFn.{length-range_with_len, get_or-range_with_len}
 use Rattle.std.proofs.lemmas.List.Kept.{Contains-dedup_nat}
 use Rattle.std.proofs.lemmas.List.Sorted.{Contains-permutation}
 use Rattle.go_word.specs.Word.{decode}
@@ -52,3 +53,41 @@ pub HasTargetsOf-sorted : (words raw sorted final : List ℕ)
     → IsPermutation raw sorted → final ≡ dedup eqb sorted → HasTargetsOf final words
 HasTargetsOf-sorted words raw sorted final among permutation is = λ k d within.
     rw (get_or_default_zero words k d within, is) (λ deletes. Contains-dedup_nat sorted _ (Contains-permutation raw sorted _ permutation (among k within deletes)))
+
+-- the numbers from one on, with one number more
+range-push : (a n : ℕ) → range_with_len a n ++ (a + n) ∷ [] ≡ range_with_len a (suc n)
+range-push a zero = let here : a + 0 ≡ a = omega arith in rw here refl
+range-push a (suc n) =
+    let next : a + suc n ≡ (a + 1) + n = omega arith in
+    rw next (ap (λ l. a ∷ l) (range-push (a + 1) n))
+
+-- the numbers below an end, with the end itself
+pub below-push : (n : ℕ) → range_with_len 0 n ++ n ∷ [] ≡ range_with_len 0 (n + 1)
+below-push n =
+    let same : 0 + n ≡ n = omega arith in
+    rw add-one (ap (λ k. range_with_len 0 n ++ k ∷ []) (sym same) ∙ range-push 0 n)
+
+-- the numbers from 0 on rise
+pub rising-below : (n : ℕ) → IsStrictlyIncreasing (range_with_len 0 n)
+rising-below n = λ k within.
+    let long : length (range_with_len 0 n) ≡ n = length-range_with_len 0 n in
+    let here : get_or (range_with_len 0 n) k 0 ≡ 0 + k = get_or-range_with_len 0 n k 0 (omega arith) in
+    let next : get_or (range_with_len 0 n) (k + 1) 0 ≡ 0 + (k + 1) = get_or-range_with_len 0 n (k + 1) 0 (omega arith) in
+    omega (arith, here, next)
+
+-- the numbers below an end are targets for words whose deletions all have destinations below it
+pub HasTargetsOf-below : (words : List ℕ) (end : ℕ) → All (λ word. (decode word).del ≡ true → (decode word).dst < end) words → HasTargetsOf (range_with_len 0 end) words
+HasTargetsOf-below words end below = λ k d within deletes.
+    let target = (decode (get_or words k d)).dst in
+    let short : target < end = below k d within deletes in
+    let long : length (range_with_len 0 end) ≡ end = length-range_with_len 0 end in
+    let at : get_or (range_with_len 0 end) target target ≡ 0 + target = get_or-range_with_len 0 end target target short in
+    (target, omega arith, omega (arith, at))
+
+-- a number that stands at its own place among the targets stands nowhere before
+pub place-own : (targets : List ℕ) (d : ℕ) → IsStrictlyIncreasing targets → d < length targets → get_or targets d 0 ≡ d → StandsAt targets d d
+place-own targets d increasing within at = record {
+  within = within;
+  here = at;
+  first = λ k h. let below = rising targets increasing k d h within in omega arith;
+}

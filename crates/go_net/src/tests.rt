@@ -2,6 +2,7 @@
 
 use crate::net;
 use go_word::{Edge, ID_LIMIT, plain};
+use std::alloc::Global;
 use std::process::Abort;
 use std::test::Fail;
 
@@ -52,24 +53,37 @@ fn a_deletion_takes_the_earliest_copy(rt: HostRuntime) -> Result<(), Fail> {
     Ok(())
 }
 
+// A hundred copies each of two neighbours; deletions of the first, but for one copy, and of one that isn't there; then
+// one addition of each. Beginning at a number that is small beside the words, or at a large one.
+fn long_list(rt: &impl Abort, alloc: Global, least: u32) -> Result<(), Fail> {
+    assert!(rt; least < 1_000_000);
+    let mut base = Vec::new(alloc);
+    for _ in 0..100u32 {
+        base.push(least)?;
+        base.push(least + 2)?;
+    }
+    let mut tail = Vec::new(alloc);
+    for _ in 0..99u32 {
+        tail.push(del(rt, least))?;
+        tail.push(del(rt, least + 3))?;
+    }
+    tail.push(add(rt, least + 3))?;
+    tail.push(add(rt, least))?;
+    let mut out = Vec::new(alloc);
+    net(alloc, &base, &tail, &mut out)?;
+    // The last copy of the first in the base stands between the last two of the second, and the new ones come behind.
+    assert_eq!(rt; out.len(), 103);
+    let want = [least + 2, least, least + 2, least + 3, least];
+    assert_eq!(rt; out.get(98..), Some(want.as_slice()));
+    Ok(())
+}
+
 #[test]
 fn a_long_list_is_folded_as_a_short_one(rt: HostRuntime) -> Result<(), Fail> {
-    let mut base = Vec::new(rt.alloc());
-    for _ in 0..100u32 {
-        base.push(5)?;
-        base.push(7)?;
-    }
-    let mut tail = Vec::new(rt.alloc());
-    for _ in 0..99u32 {
-        tail.push(del(&rt, 5))?;
-        tail.push(del(&rt, 8))?;
-    }
-    tail.push(add(&rt, 8))?;
-    tail.push(add(&rt, 5))?;
-    let mut out = Vec::new(rt.alloc());
-    net(rt.alloc(), &base, &tail, &mut out)?;
-    // The last 5 of the base stands between the last two 7, and the new ones come behind.
-    assert_eq!(rt; out.len(), 103);
-    assert_eq!(rt; out.get(98..), Some([7, 5, 7, 8, 5].as_slice()));
-    Ok(())
+    long_list(&rt, rt.alloc(), 5)
+}
+
+#[test]
+fn a_long_list_of_great_numbers_is_folded_as_a_short_one(rt: HostRuntime) -> Result<(), Fail> {
+    long_list(&rt, rt.alloc(), 999_000)
 }

@@ -1,8 +1,8 @@
--- The loop of `targets_of`.
+-- The loop of `deleted`.
 use Rattle.std.proofs.Common.{◌≡◌, ℕ, ◌<◌, get_or, true}
 use Rattle.std.specs.Prelude.{Contains}
 use Rattle.go_word.specs.Word.{decode}
-use Rattle.go_net.proofs.targets.targets_of.Given as goal
+use Rattle.go_net.proofs.targets.deleted.Given as goal
 
 -- each deletion so far has its destination among the targets
 abbrev pub invariant-loop-word : goal.invariant-loop-word

@@ -1,0 +1,8 @@
+-- The loop of `all_below`.
+use Rattle.std.proofs.Common.{◌≡◌}
+use Rattle.std.specs.List.{range_with_len}
+use Rattle.go_net.proofs.targets.all_below.Given as goal
+
+-- the numbers so far
+abbrev pub invariant-loop-number : goal.invariant-loop-number
+invariant-loop-number l = l.numbers.items ≡ range_with_len 0 l.number
