@@ -1,12 +1,14 @@
 -- Lemmas on the lanes of a shard: one by one, and through a batch.
 use Rattle.std.proofs.Common.{◌≡◌, ℕ, suc, drop, ◌<◌, ◌≤◌, ◌≢◌, ◌+◌, ◌-◌, ◌/◌, ◌^◌, Bool, true, false, List, [], ◌∷◌, ◌++◌, length, get_or, take, filter, fold, map, count_by, All, refl, sym, ap, ◌∙◌, subst, arith, inl, inr, ◌⊎◌, append_assoc, append-nil, length-append}
-use Rattle.std.proofs.lemmas.Bool.{cases_lt}
+use Rattle.std.proofs.lemmas.Bool.{cases_lt, true≢false}
 use Rattle.std.proofs.lemmas.Bool.Decides.{nat_tests}
 use Rattle.std.proofs.lemmas.List.{get_or_past, get_or_default, take-append-drop, length-map}
 use Rattle.std.proofs.lemmas.List.Sums.{count_by_more_yes, count_by-le-length, length-filter, sum_by-append}
-use Rattle.std.specs.Prelude.{◌==◌, if◌then◌else◌, Result, Ok, Err, OnErr}
+use Rattle.std.specs.Prelude.{◌==◌, if◌then◌else◌, Result, Ok, Err, OnOk, OnErr}
+use Rattle.std.specs.Result.{is_err}
 use Rattle.go_word.specs.declared.edge.Edge.{Edge}
 use Rattle.go_word.specs.Word.{plain_word}
+use Rattle.go_versions.specs.Version.{Version}
 use Rattle.go_shard.specs.Lane.{Lane, empty_lane, promising, accepting, lane_at, is_at, IsAhead, IsRestored}
 
 -- what holds of each lane and of an empty one holds at any place
@@ -70,7 +72,7 @@ count_by-take p n xs =
     omega arith
 
 -- before an entry that is counted there were fewer than in the whole
-count_by-before : (p : Edge → Bool) (xs : List Edge) (i : ℕ) (d : Edge) → i < length xs → p (get_or xs i d) ≡ true → count_by p (take i xs) < count_by p xs
+pub count_by-before : (p : Edge → Bool) (xs : List Edge) (i : ℕ) (d : Edge) → i < length xs → p (get_or xs i d) ≡ true → count_by p (take i xs) < count_by p xs
 count_by-before p xs i d within counted =
     let more : count_by p (take (i + 1) xs) ≡ count_by p (take i xs) + 1 = count_by_more_yes p xs i d within counted in
     let part : count_by p (take (i + 1) xs) ≤ count_by p xs = count_by-take p (i + 1) xs in
@@ -102,7 +104,7 @@ accept_ready shards front before lane batch i p d within at promised ahead small
     })
 
 -- a number is 0 or not
-nat_zero_or_not : (n : ℕ) → (n ≡ 0) ⊎ (n ≢ 0)
+pub nat_zero_or_not : (n : ℕ) → (n ≡ 0) ⊎ (n ≢ 0)
 nat_zero_or_not n = elim (cases_lt 0 n) [ inl some ↦ inr (λ e. omega arith) | inr none ↦ inl (omega arith) ]
 
 -- a lane whose promises were withdrawn is what it was
@@ -118,3 +120,35 @@ restored named old mid new kept withdrawn =
 pub on_err : {T E : Type 0} (P : Type 0) (r : Result T E) → P → OnErr r P
 on_err P (Ok x) h = tt
 on_err P (Err e) h = h
+
+-- a lane that takes some words, no more than are promised, has them behind its words, and notes their count with the last promised
+pub accepting-words : (front : ℕ) (lane : Lane) (ws : List ℕ) → 0 < length ws → length ws ≤ lane.promised → fold (accepting front) lane ws ≡ record { words = lane.words ++ ws; versions = if lane.promised - length ws == 0 then lane.versions ++ record { front = front; count = length lane.words + length ws } ∷ [] else lane.versions; promised = lane.promised - length ws }
+accepting-words front lane [] some few = absurd (omega arith)
+accepting-words front lane (w ∷ ws) some few = elim (cases_lt (suc (length ws)) lane.promised) [
+  | inl less ↦
+      let left : (lane.promised - suc (length ws) == 0) ≡ false = grind (arith, nat_tests) in
+      rw left (accepting-some front lane (w ∷ ws) less)
+  | inr all ↦
+      let same : suc (length ws) ≡ lane.promised = omega arith in
+      let none : lane.promised - suc (length ws) ≡ 0 = omega arith in
+      rw none (accepting-all front lane w ws same)
+]
+
+-- a lane with words behind its own, and their count noted where all promised ones came, has taken them
+pub accepted_last : (front : ℕ) (lane : Lane) (ws words : List ℕ) (versions : List Version) (promised count : ℕ) → 0 < length ws → length ws ≤ lane.promised → promised ≡ lane.promised - length ws → promised ≡ 0 → words ≡ lane.words ++ ws → count ≡ length words → versions ≡ lane.versions ++ record { front = front; count = count } ∷ []
+    → record { words = words; versions = versions; promised = promised } ≡ fold (accepting front) lane ws
+accepted_last front lane ws words versions promised count some few left none longer counted noted =
+    let last : (lane.promised - length ws == 0) ≡ true = grind (arith, nat_tests, left, none) in
+    let total : count ≡ length lane.words + length ws = counted ∙ ap length longer ∙ length-append lane.words ws in
+    rw (longer, noted, left, total) (sym (accepting-words front lane ws some few ∙ rw last refl))
+
+pub accepted_some : (front : ℕ) (lane : Lane) (ws words : List ℕ) (promised : ℕ) → 0 < length ws → length ws ≤ lane.promised → promised ≡ lane.promised - length ws → promised ≢ 0 → words ≡ lane.words ++ ws
+    → record { words = words; versions = lane.versions; promised = promised } ≡ fold (accepting front) lane ws
+accepted_some front lane ws words promised some few left more longer =
+    let not_last : (lane.promised - length ws == 0) ≡ false = grind (arith, nat_tests, left, more) in
+    rw (longer, left) (sym (accepting-words front lane ws some few ∙ rw not_last refl))
+
+-- what holds on an `Ok` holds where there is no `Err`
+pub at_ok : {T E : Type 0} (P : Type 0) (r : Result T E) → is_err r ≡ false → OnOk r P → P
+at_ok P (Ok x) none h = h
+at_ok P (Err e) none h = absurd (true≢false none)

@@ -1,14 +1,45 @@
-// A batch of entries, word by word: a place for each is promised first, and then all are taken.
+// A batch of entries: a place for each is promised first, and then all are taken.
 ghost use Rattle.std.specs.Prelude.{◌≡◌, ◌==◌, if◌then◌else◌, ℕ, ◌+◌, ◌/◌, ◌<◌, ◌^◌, length, All, count_by, filter, fold, map, OnOk, OnErr};
 ghost use Rattle.go_word.specs.Word.{IsStorable, plain_word};
 ghost use Rattle.go_shard.specs.Lane.{lane_at, is_at, promising, accepting, IsAhead, IsRestored};
 
+use crate::by_groups::take_by_groups;
 use crate::slot::Slot;
 use go_word::{Edge, plain};
 use std::alloc::{AllocError, Global};
 
+// A batch with fewer entries than one for so many vertices is not grouped, since that looks at each vertex.
+const FEW: usize = 4;
+
 /// Takes the entries of the batch, each to the end of its vertex. Where memory is refused, none is taken.
 pub(crate) fn take_batch(
+    alloc: Global,
+    shards: u32,
+    slots: &mut [Slot],
+    batch: &[Edge],
+    front: u64,
+) -> Result<(), AllocError>
+    requires shared { 0 < shards }
+    requires inside { All (λ e. e.src / shards < length slots.old) batch.now }
+    requires storable { All IsStorable batch.now }
+    requires few { length batch.now < 2 ^ 32 }
+    requires settled { All (λ lane. lane.promised ≡ 0) slots.old }
+    requires ahead { All (IsAhead front) slots.old }
+    requires small { All (λ lane. length lane.words + length batch.now < 2 ^ 32) slots.old }
+    ensures ok { OnOk result ((place : ℕ) → lane_at slots.new place ≡ fold (accepting front)
+        (promising (lane_at slots.old place) (count_by (is_at shards place) batch.now))
+        (map plain_word (filter (is_at shards place) batch.now))) }
+    ensures err { OnErr result (slots.new ≡ slots.old) }
+{
+    if batch.len() < slots.len() / FEW {
+        take_by_entries(alloc, shards, slots, batch, front)
+    } else {
+        take_by_groups(alloc, shards, slots, batch, front)
+    }
+}
+
+// Takes one entry after another.
+fn take_by_entries(
     alloc: Global,
     shards: u32,
     slots: &mut [Slot],
@@ -68,13 +99,13 @@ fn promise_some(
         (count_by (is_at shards place) batch.now) (lane_at slots.old place) (lane_at slots.new place) }
 {
     for edge in batch {
-        slots[(edge.src / shards) as usize].promise(alloc)?;
+        slots[(edge.src / shards) as usize].promise(alloc, 1)?;
     }
     Ok(())
 }
 
-// Takes back what was promised to the vertices that the batch names.
-fn withdraw_all(shards: u32, slots: &mut [Slot], batch: &[Edge])
+/// Takes back what was promised to the vertices that the batch names.
+pub(crate) fn withdraw_all(shards: u32, slots: &mut [Slot], batch: &[Edge])
     requires shared { 0 < shards }
     requires inside { All (λ e. e.src / shards < length slots.old) batch.now }
     ensures { (place : ℕ) → lane_at slots.new place
@@ -99,6 +130,6 @@ fn accept_all(shards: u32, slots: &mut [Slot], batch: &[Edge], front: u64)
 {
     for edge in batch {
         let word = plain(*edge);
-        slots[(edge.src / shards) as usize].accept(word, front);
+        slots[(edge.src / shards) as usize].accept(&[word], front);
     }
 }

@@ -1,5 +1,5 @@
 // What is held of a vertex that has entries.
-ghost use Rattle.std.specs.Prelude.{◌≡◌, ◌+◌, ◌<◌, ◌≤◌, ◌^◌, ◌++◌, length, take, OnOk, OnErr};
+ghost use Rattle.std.specs.Prelude.{◌≡◌, ◌+◌, ◌<◌, ◌≤◌, ◌^◌, ◌++◌, length, take, fold, OnOk, OnErr};
 ghost use Rattle.go_versions.specs.History.{count_at};
 ghost use Rattle.go_shard.specs.Lane.{empty_lane, promising, accepting, IsAhead};
 
@@ -13,8 +13,9 @@ use std::marker::Model;
 #[derive(Drop)]
 pub(crate) struct Held {
     tail: Chain,
-    versions: Versions,
+    // between the two, so that what a batch looks at lies close together
     promised: usize,
+    versions: Versions,
 }
 
 impl Model for Held {
@@ -38,17 +39,17 @@ impl Held {
     {
         Held {
             tail: Chain::new(alloc),
-            versions: Versions::new(alloc),
             promised: 0,
+            versions: Versions::new(alloc),
         }
     }
 
-    /// Promises a place to one more word, and to the version that it will bring.
-    pub(crate) fn promise(&mut self) -> Result<(), AllocError>
-        ensures ok { OnOk result (self.new ≡ promising self.old (self.old.promised + 1)) }
+    /// Promises a place to so many more words, and to the version that they will bring.
+    pub(crate) fn promise(&mut self, more: usize) -> Result<(), AllocError>
+        ensures ok { OnOk result (self.new ≡ promising self.old (self.old.promised + more)) }
         ensures err { OnErr result (self.new ≡ self.old) }
     {
-        let promised = self.promised.checked_add(1).ok_or(AllocError)?;
+        let promised = self.promised.checked_add(more).ok_or(AllocError)?;
         self.tail.reserve(promised)?;
         self.versions.reserve()?;
         self.promised = promised;
@@ -62,15 +63,16 @@ impl Held {
         self.promised = 0;
     }
 
-    /// Takes a word that was promised a place; the last one notes the count from the front on.
-    pub(crate) fn accept(&mut self, word: u64, front: u64)
-        requires promised { 0 < self.old.promised }
+    /// Takes words that were promised a place; the last one promised notes the count from the front on.
+    pub(crate) fn accept(&mut self, words: &[u64], front: u64)
+        requires some { 0 < length words.now }
+        requires promised { length words.now ≤ self.old.promised }
         requires ahead { IsAhead front self.old }
-        requires small { length self.old.words + 1 < 2 ^ 32 }
-        ensures { self.new ≡ accepting front self.old word }
+        requires small { length self.old.words + length words.now < 2 ^ 32 }
+        ensures { self.new ≡ fold (accepting front) self.old words.now }
     {
-        self.tail.push(word);
-        self.promised -= 1;
+        self.tail.extend_from_slice(words);
+        self.promised -= words.len();
         if self.promised == 0 {
             let count = self.tail.len() as u32;
             self.versions.note(front, count);

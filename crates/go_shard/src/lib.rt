@@ -6,12 +6,14 @@
 //! has: the entries of each of its vertices in order, and how many there were at each front that it keeps.
 //! A caller may rely on this: a new shard stands for the empty log; after an append it stands for the longer
 //! log; `degree_at` and `neighbours` answer from the log, at any kept front, whatever was appended since. An
-//! append that is refused leaves the shard as it was. An append goes through its batch a few times and touches
-//! no vertex that the batch doesn't name; a vertex without entries takes sixteen bytes.
+//! append that is refused leaves the shard as it was. An append groups its batch by vertex and goes from vertex
+//! to vertex, or, where the batch is small, from entry to entry; a vertex without entries takes sixteen bytes.
 //! Left out: nothing is ever given up, so the cut is 0, and there are no pins.
 #![tactic(auto)]
 
 mod batch;
+mod by_groups;
+mod groups;
 mod held;
 mod slot;
 mod store;

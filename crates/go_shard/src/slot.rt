@@ -1,5 +1,5 @@
 // The place of a vertex in its shard.
-ghost use Rattle.std.specs.Prelude.{◌≡◌, ◌+◌, ◌<◌, ◌≤◌, ◌^◌, ◌++◌, length, take, OnOk, OnErr};
+ghost use Rattle.std.specs.Prelude.{◌≡◌, ◌+◌, ◌<◌, ◌≤◌, ◌^◌, ◌++◌, length, take, fold, OnOk, OnErr};
 ghost use Rattle.go_versions.specs.History.{count_at};
 ghost use Rattle.go_shard.specs.Lane.{empty_lane, promising, accepting, IsAhead};
 
@@ -30,16 +30,27 @@ impl Slot {
         Slot { held: None }
     }
 
-    /// Promises a place to one more word.
-    pub(crate) fn promise(&mut self, alloc: Global) -> Result<(), AllocError>
-        ensures ok { OnOk result (self.new ≡ promising self.old (self.old.promised + 1)) }
+    /// Promises a place to so many more words.
+    pub(crate) fn promise(&mut self, alloc: Global, more: usize) -> Result<(), AllocError>
+        ensures ok { OnOk result (self.new ≡ promising self.old (self.old.promised + more)) }
+        ensures err { OnErr result (self.new ≡ self.old) }
+    {
+        if more == 0 {
+            return Ok(());
+        }
+        self.promise_some(alloc, more)
+    }
+
+    // The same for some words, apart from the test above, which is made for each vertex.
+    fn promise_some(&mut self, alloc: Global, more: usize) -> Result<(), AllocError>
+        ensures ok { OnOk result (self.new ≡ promising self.old (self.old.promised + more)) }
         ensures err { OnErr result (self.new ≡ self.old) }
     {
         match &mut self.held {
-            Some(held) => held.promise(),
+            Some(held) => held.promise(more),
             None => {
                 let mut held = Held::new(alloc);
-                held.promise()?;
+                held.promise(more)?;
                 self.held = Some(Box::new(alloc, held)?);
                 Ok(())
             }
@@ -55,15 +66,28 @@ impl Slot {
         }
     }
 
-    /// Takes a word that was promised a place; the last one notes the count from the front on.
-    pub(crate) fn accept(&mut self, word: u64, front: u64)
-        requires promised { 0 < self.old.promised }
+    /// Takes words that were promised a place; the last one promised notes the count from the front on.
+    pub(crate) fn accept(&mut self, words: &[u64], front: u64)
+        requires promised { length words.now ≤ self.old.promised }
         requires ahead { IsAhead front self.old }
-        requires small { length self.old.words + 1 < 2 ^ 32 }
-        ensures { self.new ≡ accepting front self.old word }
+        requires small { length self.old.words + length words.now < 2 ^ 32 }
+        ensures { self.new ≡ fold (accepting front) self.old words.now }
+    {
+        if !words.is_empty() {
+            self.accept_some(words, front);
+        }
+    }
+
+    // The same for some words.
+    fn accept_some(&mut self, words: &[u64], front: u64)
+        requires some { 0 < length words.now }
+        requires promised { length words.now ≤ self.old.promised }
+        requires ahead { IsAhead front self.old }
+        requires small { length self.old.words + length words.now < 2 ^ 32 }
+        ensures { self.new ≡ fold (accepting front) self.old words.now }
     {
         if let Some(held) = &mut self.held {
-            held.accept(word, front);
+            held.accept(words, front);
         }
     }
 

@@ -86,3 +86,51 @@ fn a_refused_batch_changes_nothing(rt: HostRuntime) -> Result<(), Fail> {
     }
     Ok(())
 }
+
+#[test]
+fn the_batch_is_taken_where_there_is_memory(rt: HostRuntime) -> Result<(), Fail> {
+    let mut shard = begun(rt.alloc())?;
+    shard.append(&[add(1, 3), add(5, 1)], 6)?;
+    assert_eq!(rt; shard.degree_at(5, 6), 1);
+    Ok(())
+}
+
+// Shard 0 of 1 over 64 vertices after two entries: so many that a small batch is taken entry by entry.
+fn sparse(alloc: Global) -> Result<Shard, AllocError>
+    ensures index { IfOk result (λ shard. shard.index ≡ 0) }
+    ensures shards { IfOk result (λ shard. shard.shards ≡ 1) }
+    ensures vertices { IfOk result (λ shard. shard.vertices ≡ 64) }
+    ensures cut { IfOk result (λ shard. shard.cut ≡ 0) }
+    ensures front { IfOk result (λ shard. shard.front ≡ 2) }
+    ensures fronts { IfOk result (λ shard. shard.fronts ≡ 0 ∷ 2 ∷ []) }
+{
+    let mut shard = Shard::new(alloc, 0, 1, 64)?;
+    shard.append(&[add(1, 2), add(40, 2)], 2)?;
+    Ok(shard)
+}
+
+#[test]
+fn a_refused_small_batch_changes_nothing(rt: HostRuntime) -> Result<(), Fail> {
+    let mut shard = sparse(rt.alloc())?;
+    match shard.append(&[add(1, 3), add(5, 1)], 6) {
+        Ok(()) => assert_eq!(rt; shard.degree_at(1, 6), 2),
+        Err(_) => {
+            assert_eq!(rt; shard.front(), 2);
+            assert_eq!(rt; shard.degree_at(1, 2), 1);
+        }
+    }
+    Ok(())
+}
+
+#[test]
+fn the_small_batch_is_taken_where_there_is_memory(rt: HostRuntime) -> Result<(), Fail> {
+    let mut shard = sparse(rt.alloc())?;
+    shard.append(&[add(1, 3), add(5, 1)], 6)?;
+    let raw = shard.degree_at(1, 6);
+    assert_eq!(rt; raw, 2);
+    assert_eq!(rt; shard.degree_at(5, 6), 1);
+    let mut out = Vec::new(rt.alloc());
+    shard.neighbours(1, raw, &mut out)?;
+    assert_eq!(rt; out.as_slice(), [2, 3].as_slice());
+    Ok(())
+}

@@ -2,7 +2,7 @@
 use Rattle.std.proofs.Common.{◌<◌, ◌+◌, ◌^◌, length, count_by}
 use Rattle.go_shard.specs.Lane.{is_at, IsAhead}
 use Rattle.go_shard.proofs.LaneLemmas.{promised-All, IsAhead-promising}
-use Rattle.go_shard.proofs.batch.take_batch.Goals as goal
+use Rattle.go_shard.proofs.batch.take_by_entries.Goals as goal
 
 pub accept_all-requires-clause-ahead : goal.accept_all-requires-clause-ahead
 accept_all-requires-clause-ahead c =

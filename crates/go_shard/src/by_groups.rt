@@ -1,0 +1,79 @@
+// A batch that names many vertices, taken vertex by vertex.
+ghost use Rattle.std.specs.Prelude.{◌≡◌, ℕ, ◌+◌, ◌/◌, ◌<◌, ◌≤◌, ◌^◌, length, All, count_by, filter, fold, map, OnOk, OnErr};
+ghost use Rattle.go_word.specs.Word.{IsStorable, plain_word};
+ghost use Rattle.go_shard.specs.Lane.{lane_at, is_at, promising, accepting, IsAhead, IsRestored};
+ghost use Rattle.go_shard.specs.Groups.{size_at, group_at, IsCut};
+
+use crate::batch::withdraw_all;
+use crate::groups::grouped;
+use crate::slot::Slot;
+use go_word::Edge;
+use std::alloc::{AllocError, Global};
+
+/// Takes the entries of the batch, each to the end of its vertex. Where memory is refused, none is taken.
+pub(crate) fn take_by_groups(
+    alloc: Global,
+    shards: u32,
+    slots: &mut [Slot],
+    batch: &[Edge],
+    front: u64,
+) -> Result<(), AllocError>
+    requires shared { 0 < shards }
+    requires inside { All (λ e. e.src / shards < length slots.old) batch.now }
+    requires storable { All IsStorable batch.now }
+    requires few { length batch.now < 2 ^ 32 }
+    requires settled { All (λ lane. lane.promised ≡ 0) slots.old }
+    requires ahead { All (IsAhead front) slots.old }
+    requires small { All (λ lane. length lane.words + length batch.now < 2 ^ 32) slots.old }
+    ensures ok { OnOk result ((place : ℕ) → lane_at slots.new place ≡ fold (accepting front)
+        (promising (lane_at slots.old place) (count_by (is_at shards place) batch.now))
+        (map plain_word (filter (is_at shards place) batch.now))) }
+    ensures err { OnErr result (slots.new ≡ slots.old) }
+{
+    let groups = grouped(alloc, shards, slots.len(), batch)?;
+    let promised = promise_groups(alloc, slots, &groups.ends);
+    if promised.is_err() {
+        withdraw_all(shards, slots, batch);
+        return promised;
+    }
+    accept_groups(slots, &groups.ends, &groups.words, front);
+    Ok(())
+}
+
+// Promises each vertex as many places as its group has words, up to where memory is refused.
+fn promise_groups(alloc: Global, slots: &mut [Slot], ends: &[u32]) -> Result<(), AllocError>
+    requires whole { length ends.now ≡ length slots.old }
+    requires cut { IsCut ends.now (2 ^ 32) }
+    requires settled { All (λ lane. lane.promised ≡ 0) slots.old }
+    ensures ok { OnOk result ((place : ℕ) → place < length slots.old →
+        lane_at slots.new place ≡ promising (lane_at slots.old place) (size_at ends.now place)) }
+    ensures kept { (place : ℕ) → place < length slots.old →
+        IsRestored (size_at ends.now place) (lane_at slots.old place) (lane_at slots.new place) }
+{
+    let mut from = 0;
+    for place in 0..slots.len() {
+        let to = ends[place];
+        slots[place].promise(alloc, (to - from) as usize)?;
+        from = to;
+    }
+    Ok(())
+}
+
+// Takes the words of each vertex's group, for each of which a place was promised.
+fn accept_groups(slots: &mut [Slot], ends: &[u32], words: &[u64], front: u64)
+    requires whole { length ends.now ≡ length slots.old }
+    requires cut { IsCut ends.now (length words.now) }
+    requires promised { (place : ℕ) → place < length slots.old →
+        (lane_at slots.old place).promised ≡ size_at ends.now place }
+    requires ahead { All (IsAhead front) slots.old }
+    requires small { All (λ lane. length lane.words + length words.now < 2 ^ 32) slots.old }
+    ensures { (place : ℕ) → place < length slots.old → lane_at slots.new place
+        ≡ fold (accepting front) (lane_at slots.old place) (group_at ends.now words.now place) }
+{
+    let mut from = 0;
+    for place in 0..slots.len() {
+        let to = ends[place] as usize;
+        slots[place].accept(&words[from..to], front);
+        from = to;
+    }
+}
