@@ -4,6 +4,7 @@
 #![tactic(auto)]
 
 mod blocks;
+mod durable;
 mod edges;
 mod shard;
 
@@ -23,6 +24,7 @@ fn main(rt: HostRuntime) -> io::Result<()> {
         "shard" => shard::run(&rt, rt.alloc(), Shape::Spread, entries),
         "hub" => shard::run(&rt, rt.alloc(), Shape::Hub, entries),
         "write-blocks" => blocks::write(&rt, rt.alloc(), file, u64::from(entries)),
+        "append-log" => durable::append(&rt, rt.alloc(), file, u64::from(entries)),
         "read-blocks" => blocks::read(&rt, rt.alloc(), file),
         _ => eprintln!(rt; "go_bench: no such job"),
     }

@@ -198,7 +198,6 @@ header_takes bytes read fits e =
     let a = bind_ok (gate_at bytes) letters_at b.0 b.1 in
     let gate = gate_takes bytes a.0 a.1 in
     let fits1 : AreBytes a.0 = λ i. subst (λ (t : List ℕ). get_or t (suc i) 0 < 256) gate.1 (fits (suc i)) in
-    let byte : gate.0 < 256 = subst (λ (t : List ℕ). get_or t 0 0 < 256) gate.1 (fits 0) in
     let letters = letters_takes a.0 b.0 a.2 in
     let fits2 : AreBytes b.0 = subst AreBytes (ap (drop 8) letters) (AreBytes-drop 8 a.0 fits1) in
     let version = version_takes b.0 c.0 fits2 b.2 in
@@ -208,7 +207,7 @@ header_takes bytes read fits e =
     let whole : bytes ≡ header_bytes gate.0 d.0.0 ++ d.0.1 =
     gate.1 ∙ ap (λ (t : List ℕ). gate.0 ∷ t) (letters ∙ ap (λ (t : List ℕ). MAGIC ++ t) (version ∙ ap (λ (t : List ℕ). to_le_bytes w16 VERSION ++ t) vertices.0)) in
     subst (λ (x : ℕ × List ℕ). TakesHeader bytes x.0 x.1) first.0
-    (record { gate = gate.0; is_open = record { open_gate = gate.2; byte = byte }; vertices = vertices.1; parts = whole; gate_here = first.1 })
+    (record { gate = gate.0; is_open = record { open_gate = gate.2 }; vertices = vertices.1; parts = whole; gate_here = first.1 })
 
 -- the count of a body that has a byte behind it is read
 pub count_again : (gate : ℕ) (es : List Edge) (x : ℕ) (rest : List ℕ) → IsCount (length es) → count_at gate (body_of es ++ x ∷ rest) ≡ Ok (length es, flat_map word_bytes es ++ x ∷ rest)

@@ -118,11 +118,11 @@ front_length v bs front has = ap length has.bytes ∙ length-append (header_byte
 
 -- what is read goes on by a block
 pub up_to-more : (bytes rest : List ℕ) (v : ℕ) (old new : List Edge) (places : List BlockPlace) (gate byte count next : ℕ) (after : List ℕ) →
-    IsUpTo bytes (byte ∷ rest) v old places gate → CLOSED < byte → byte < 256 → TakesBlock v rest old new count after → next ≡ length bytes - length after →
+    IsUpTo bytes (byte ∷ rest) v old places gate → CLOSED < byte → TakesBlock v rest old new count after → next ≡ length bytes - length after →
     IsUpTo bytes after v new (places ++ record { gate = gate; count = count } ∷ []) next
-up_to-more bytes rest v old new places gate byte count next after upto opened fits takes here =
+up_to-more bytes rest v old new places gate byte count next after upto opened takes here =
     let b : Block = record { gate = byte; entries = takes.more } in
-    let block : IsBlock v b = record { is_open = record { open_gate = opened; byte = fits }; count = takes.is_count; within = takes.within } in
+    let block : IsBlock v b = record { is_open = record { open_gate = opened }; count = takes.is_count; within = takes.within } in
     let at_gate : FIRST_GATE + length (flat_map block_bytes upto.blocks) ≡ gate = sym (upto.gate_is ∙ front_length v upto.blocks upto.front upto.has_blocks) in
     let whole : bytes ≡ (upto.front ++ block_bytes b) ++ after = upto.parts ∙ ap (λ (t : List ℕ). upto.front ++ byte ∷ t) takes.parts ∙ sym (append_assoc upto.front (block_bytes b) after) in
     record {
@@ -146,12 +146,11 @@ first_cell (x ∷ xs) some = refl
 
 -- the same, by the list that begins with the gate
 pub up_to-next : (bytes rest : List ℕ) (v : ℕ) (old new : List Edge) (places : List BlockPlace) (gate count next : ℕ) (after : List ℕ) →
-    IsUpTo bytes rest v old places gate → AreBytes bytes → (get_or rest 0 0 ≡ CLOSED → ⊥) → TakesBlock v (drop 1 rest) old new count after → next ≡ length bytes - length after →
+    IsUpTo bytes rest v old places gate → (get_or rest 0 0 ≡ CLOSED → ⊥) → TakesBlock v (drop 1 rest) old new count after → next ≡ length bytes - length after →
     IsUpTo bytes after v new (places ++ record { gate = gate; count = count } ∷ []) next
-up_to-next bytes rest v old new places gate count next after upto fits opened takes here =
-    let byte : get_or rest 0 0 < 256 = AreBytes-behind upto.front rest (subst AreBytes upto.parts fits) 0 in
+up_to-next bytes rest v old new places gate count next after upto opened takes here =
     let split : rest ≡ get_or rest 0 0 ∷ drop 1 rest = first_cell rest upto.gate_here in
-    up_to-more bytes (drop 1 rest) v old new places gate (get_or rest 0 0) count next after (subst (λ (t : List ℕ). IsUpTo bytes t v old places gate) split upto) (omega (arith, opened)) byte takes here
+    up_to-more bytes (drop 1 rest) v old new places gate (get_or rest 0 0) count next after (subst (λ (t : List ℕ). IsUpTo bytes t v old places gate) split upto) (omega (arith, opened)) takes here
 
 -- what is read up to a closed gate is all
 pub up_to-closed : (bytes rest : List ℕ) (v : ℕ) (edges : List Edge) (places : List BlockPlace) (gate : ℕ) (file : Log) → IsUpTo bytes (CLOSED ∷ rest) v edges places gate →

@@ -9,10 +9,9 @@ use Rattle.go_blocks.specs.declared.layout.TheConstants.{CLOSED, MAGIC, VERSION,
 use Rattle.go_blocks.specs.declared.log_file.BlockPlace.{BlockPlace}
 use Rattle.go_blocks.specs.Log.{Log}
 
--- a byte is an open gate
+-- a gate is open
 pub record IsOpen (gate : ℕ) : Type 0 where
   pub open_gate : CLOSED < gate
-  pub byte : gate < 256
 
 -- a file can have so many vertices
 pub record IsVertexCount (v : ℕ) : Type 0 where

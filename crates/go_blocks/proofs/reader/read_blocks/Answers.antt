@@ -1,5 +1,5 @@
 -- The steps of `read_blocks`: a block more, and the first fault.
-use Rattle.std.proofs.Common.{ℕ, List, arith, subst, refl}
+use Rattle.std.proofs.Common.{ℕ, List, subst, refl}
 use Rattle.std.proofs.lemmas.Result.{err_from_is_err_and}
 use Rattle.go_blocks.specs.Faults.{IsBlockFault, IsFirstFault}
 use Rattle.go_blocks.specs.Reading.{TakesBlock}
@@ -17,5 +17,5 @@ returns-in_err-count c =
 pub loop-rest-preserved : goal.loop-rest-preserved
 loop-rest-preserved c =
     rw c.in_ok-push.ensures.items (up_to-next c.args.bytes.now c.loop-rest.rest.now c.args.vertices c.loop-rest.edges.items c.read_block.new.edges.items c.loop-rest.places.items c.loop-rest.gate c.in_ok-count.count _
-    c.in_ok-count.after.now c.loop-rest.invariant (λ i. omega (arith, c.type_inv.bytes i)) c.loop-rest-test.true
+    c.in_ok-count.after.now c.loop-rest.invariant c.loop-rest-test.true
     (subst (λ (t : List ℕ). TakesBlock c.args.vertices t c.loop-rest.edges.items c.read_block.new.edges.items c.in_ok-count.count c.in_ok-count.after.now) c.split_at.ensures.back c.in_ok-count.ensures) refl)

@@ -1,0 +1,9 @@
+-- The lemmas of durable logs.
+pub mod Moments
+pub mod Gates
+pub mod Headers
+pub mod Growing
+pub mod Attached
+pub mod Standing
+pub mod Recovered
+pub mod Places

@@ -1,0 +1,66 @@
+-- The caller: what each append may leave is one of three logs.
+use Rattle.std.proofs.Common.{◌≡◌, ◌⊎◌, inl, inr, ℕ, List, ◌++◌, sym, subst, ◌∙◌}
+use Rattle.go_word.specs.declared.edge.Edge.{Edge}
+use Rattle.go_blocks.specs.File.{File}
+use Rattle.go_durable.specs.Kept.{Found}
+use Rattle.go_durable.specs.Moments.{LeavesOnly, SettlesTo}
+use Rattle.go_durable.specs.Recovery.{Recovers, IsBeforeOrAfter}
+use Rattle.go_durable.proofs.Moments.{goes_on}
+use Rattle.go_durable.proofs.caller.attach_and_append_twice.Goals as goal
+
+-- a front of the final log
+abbrev IsOne : ℕ → List Edge → List Edge → List Edge → List ℕ → Type 0
+IsOne v log first second image = Recovers v log image ⊎ (Recovers v (log ++ first) image ⊎ Recovers v ((log ++ first) ++ second) image)
+
+-- after the first append
+one_of_first : (v u : ℕ) (log first second : List Edge) (image : List ℕ) → u ≡ v → IsBeforeOrAfter u log first image → IsOne v log first second image
+one_of_first v u log first second image same (inl before) = inl (inr (subst (λ (w : ℕ). File w log image) same before))
+one_of_first v u log first second image same (inr after) = inr (inl (inr (subst (λ (w : ℕ). File w (log ++ first) image) same after)))
+
+after_first : {D : Type 0} (clock : D → ℕ) (since : D → ℕ → List ℕ → Type 0) (v u : ℕ) (log first second : List Edge) (old mid new : D) → u ≡ v →
+    SettlesTo clock since old mid (Recovers v log) → LeavesOnly clock since mid new (IsBeforeOrAfter u log first) → SettlesTo clock since old new (IsOne v log first second)
+after_first clock since v u log first second old mid new same opening leaves =
+    goes_on clock since old mid new (Recovers v log) (IsBeforeOrAfter u log first) (IsOne v log first second) (λ image recovers. inl recovers) (λ image is. one_of_first v u log first second image same is) opening leaves
+
+-- after the second
+one_of_second : (v u : ℕ) (log first second : List Edge) (image : List ℕ) → u ≡ v → IsBeforeOrAfter u (log ++ first) second image → IsOne v log first second image
+one_of_second v u log first second image same (inl before) = inr (inl (inr (subst (λ (w : ℕ). File w (log ++ first) image) same before)))
+one_of_second v u log first second image same (inr after) = inr (inr (inr (subst (λ (w : ℕ). File w ((log ++ first) ++ second) image) same after)))
+
+after_second : {D : Type 0} (clock : D → ℕ) (since : D → ℕ → List ℕ → Type 0) (v u : ℕ) (log first second : List Edge) (old mid new : D) → u ≡ v →
+    SettlesTo clock since old mid (IsOne v log first second) → LeavesOnly clock since mid new (IsBeforeOrAfter u (log ++ first) second) → SettlesTo clock since old new (IsOne v log first second)
+after_second clock since v u log first second old mid new same so_far leaves =
+    goes_on clock since old mid new (IsOne v log first second) (IsBeforeOrAfter u (log ++ first) second) (IsOne v log first second) (λ image is. is) (λ image is. one_of_second v u log first second image same is) so_far leaves
+
+pub returns-in-Err-append : goal.returns-in-Err-append
+returns-in-Err-append g c =
+    let opening : SettlesTo g.D.Disk.clock g.D.Disk.since c.args.disk c.log.inside.log.disk (Recovers c.args.vertices c.log.inside.edges.items) =
+    subst (λ (f : Found g.row.D.Denot). SettlesTo g.D.Disk.clock g.D.Disk.since c.args.disk f.log.disk (Recovers c.args.vertices f.edges)) (sym c.log.view_is) c.in-Ok.ensures.recovers in
+    let same : c.log.inside.log.vertices ≡ c.args.vertices = subst (λ (f : Found g.row.D.Denot). f.log.vertices ≡ c.args.vertices) (sym c.log.view_is) c.in-Ok.ensures.log.vertices_are in
+    subst (λ (d : g.row.D.Denot). SettlesTo g.D.Disk.clock g.D.Disk.since c.args.disk d (IsOne c.args.vertices c.log.inside.edges.items c.args.first.now c.args.second.now)) (sym c.disk_in.ensures)
+    (after_first g.D.Disk.clock g.D.Disk.since c.args.vertices c.log.inside.log.vertices c.log.inside.edges.items c.args.first.now c.args.second.now c.args.disk c.log.inside.log.disk _ same opening
+    (c.in-Err-append.ensures.moments c.log.inside.edges.items c.log.invariant.stands))
+
+pub returns-in-Ok-append-2 : goal.returns-in-Ok-append-2
+returns-in-Ok-append-2 g c =
+    let opening : SettlesTo g.D.Disk.clock g.D.Disk.since c.args.disk c.log.inside.log.disk (Recovers c.args.vertices c.log.inside.edges.items) =
+    subst (λ (f : Found g.row.D.Denot). SettlesTo g.D.Disk.clock g.D.Disk.since c.args.disk f.log.disk (Recovers c.args.vertices f.edges)) (sym c.log.view_is) c.in-Ok.ensures.recovers in
+    let same : c.log.inside.log.vertices ≡ c.args.vertices = subst (λ (f : Found g.row.D.Denot). f.log.vertices ≡ c.args.vertices) (sym c.log.view_is) c.in-Ok.ensures.log.vertices_are in
+    let first = after_first g.D.Disk.clock g.D.Disk.since c.args.vertices c.log.inside.log.vertices c.log.inside.edges.items c.args.first.now c.args.second.now c.args.disk c.log.inside.log.disk c.in-Ok-append.log.disk same opening
+    (c.in-Ok-append.ensures.moments c.log.inside.edges.items c.log.invariant.stands) in
+    let longer = c.in-Ok-append.ensures.answer in
+    subst (λ (d : g.row.D.Denot). SettlesTo g.D.Disk.clock g.D.Disk.since c.args.disk d (IsOne c.args.vertices c.log.inside.edges.items c.args.first.now c.args.second.now)) (sym c.into_disk.ensures)
+    (after_second g.D.Disk.clock g.D.Disk.since c.args.vertices c.in-Ok-append.log.vertices c.log.inside.edges.items c.args.first.now c.args.second.now c.args.disk c.in-Ok-append.log.disk _ (longer.vertices_are ∙ same) first
+    (c.in-Ok-append-2.ensures.moments (c.log.inside.edges.items ++ c.args.first.now) (longer.stands c.log.inside.edges.items c.log.invariant.stands)))
+
+pub returns-in-Err-append-2 : goal.returns-in-Err-append-2
+returns-in-Err-append-2 g c =
+    let opening : SettlesTo g.D.Disk.clock g.D.Disk.since c.args.disk c.log.inside.log.disk (Recovers c.args.vertices c.log.inside.edges.items) =
+    subst (λ (f : Found g.row.D.Denot). SettlesTo g.D.Disk.clock g.D.Disk.since c.args.disk f.log.disk (Recovers c.args.vertices f.edges)) (sym c.log.view_is) c.in-Ok.ensures.recovers in
+    let same : c.log.inside.log.vertices ≡ c.args.vertices = subst (λ (f : Found g.row.D.Denot). f.log.vertices ≡ c.args.vertices) (sym c.log.view_is) c.in-Ok.ensures.log.vertices_are in
+    let first = after_first g.D.Disk.clock g.D.Disk.since c.args.vertices c.log.inside.log.vertices c.log.inside.edges.items c.args.first.now c.args.second.now c.args.disk c.log.inside.log.disk c.in-Ok-append.log.disk same opening
+    (c.in-Ok-append.ensures.moments c.log.inside.edges.items c.log.invariant.stands) in
+    let longer = c.in-Ok-append.ensures.answer in
+    subst (λ (d : g.row.D.Denot). SettlesTo g.D.Disk.clock g.D.Disk.since c.args.disk d (IsOne c.args.vertices c.log.inside.edges.items c.args.first.now c.args.second.now)) (sym c.disk_in-in-Err-append-2.ensures)
+    (after_second g.D.Disk.clock g.D.Disk.since c.args.vertices c.in-Ok-append.log.vertices c.log.inside.edges.items c.args.first.now c.args.second.now c.args.disk c.in-Ok-append.log.disk _ (longer.vertices_are ∙ same) first
+    (c.in-Err-append-2.ensures.moments (c.log.inside.edges.items ++ c.args.first.now) (longer.stands c.log.inside.edges.items c.log.invariant.stands)))

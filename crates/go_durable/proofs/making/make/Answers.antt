@@ -1,0 +1,47 @@
+-- `make`: the gate is closed, and opened once the header stands behind it.
+use Rattle.std.proofs.Common.{◌≡◌, ℕ, ◌+◌, List, [], ◌∷◌, ◌++◌, length, drop, refl, ◌∙◌, ap, subst}
+use Rattle.std.specs.Prelude.{Option, IfSome}
+use Rattle.go_blocks.specs.declared.layout.TheConstants.{CLOSED, HEADER_LENGTH}
+use Rattle.go_blocks.specs.File.{IsVertexCount}
+use Rattle.go_durable.specs.Attaching.{IsLeft}
+use Rattle.go_durable.specs.Moments.{LeavesOnly}
+use Rattle.go_durable.specs.Reading.{IsUnmadeOf, IsGated}
+use Rattle.go_durable.specs.Writing.{IsShutOrOpened}
+use Rattle.go_durable.proofs.Moments.{joined, weaker}
+use Rattle.go_durable.proofs.Headers.{header_inner, header_is_left, told_on}
+use Rattle.go_durable.proofs.making.make.Goals as goal
+
+-- the moments of the header, after those of the gate
+header_moments : {D : Type 0} (seen base : D → Option (List ℕ)) (images : D → List ℕ → Type 0) (clock : D → ℕ) (since : D → ℕ → List ℕ → Type 0) (v len end : ℕ) (old mid new : D) → IsVertexCount v →
+    IfSome (seen old) (IsUnmadeOf len) → IsGated seen base images old mid → end ≡ HEADER_LENGTH → LeavesOnly clock since old mid (IsLeft v (seen old)) →
+    LeavesOnly clock since mid new (IsShutOrOpened (seen mid) end [] (header_inner v)) → LeavesOnly clock since old new (IsLeft v (seen old))
+header_moments seen base images clock since v len end old mid new count unmade gated end_is first second =
+    joined clock since old mid new (IsLeft v (seen old)) first
+    (weaker clock since mid new (IsShutOrOpened (seen mid) end [] (header_inner v)) (IsLeft v (seen old))
+    (λ image is. header_is_left v len (seen old) (seen mid) image count unmade gated.short (subst (λ (e : ℕ). IsShutOrOpened (seen mid) e [] (header_inner v) image) end_is is)) second)
+
+pub returns-in_default-clause-moments : goal.returns-in_default-clause-moments
+returns-in_default-clause-moments g c = λ quiet unmade. c.close_gate.ensures.moments c.args.vertices quiet unmade
+
+pub returns-in_default-open_behind-clause-moments : goal.returns-in_default-open_behind-clause-moments
+returns-in_default-open_behind-clause-moments g c = λ quiet unmade.
+    let body_is : c.split_at.result.1.now ≡ header_inner c.args.vertices ++ CLOSED ∷ [] = c.split_at.ensures.back ∙ ap (drop 1) c.header-bytes.ensures.exact in
+    let gated = c.in-Ok.ensures.done quiet unmade in
+    header_moments g.D.Disk.seen g.D.Disk.base g.D.Disk.images g.D.Disk.clock g.D.Disk.since c.args.vertices c.args.len (0 + 1 + length c.split_at.result.1.now) c.args.disk.now c.close_gate.new.disk c.open_behind.new.disk
+    c.requires unmade gated (ap (λ (b : List ℕ). 0 + 1 + length b) body_is) (c.close_gate.ensures.moments c.args.vertices quiet unmade)
+    (c.open_behind.ensures.moments [] (header_inner c.args.vertices) gated.shut refl body_is)
+
+pub returns-clause-moments : goal.returns-clause-moments
+returns-clause-moments g c = λ quiet unmade.
+    let body_is : c.split_at.result.1.now ≡ header_inner c.args.vertices ++ CLOSED ∷ [] = c.split_at.ensures.back ∙ ap (drop 1) c.header-bytes.ensures.exact in
+    let gated = c.in-Ok.ensures.done quiet unmade in
+    header_moments g.D.Disk.seen g.D.Disk.base g.D.Disk.images g.D.Disk.clock g.D.Disk.since c.args.vertices c.args.len (0 + 1 + length c.split_at.result.1.now) c.args.disk.now c.close_gate.new.disk c.open_behind.new.disk
+    c.requires unmade gated (ap (λ (b : List ℕ). 0 + 1 + length b) body_is) (c.close_gate.ensures.moments c.args.vertices quiet unmade)
+    (c.open_behind.ensures.moments [] (header_inner c.args.vertices) gated.shut refl body_is)
+
+pub returns-clause-done : goal.returns-clause-done
+returns-clause-done g c = λ quiet unmade.
+    let body_is : c.split_at.result.1.now ≡ header_inner c.args.vertices ++ CLOSED ∷ [] = c.split_at.ensures.back ∙ ap (drop 1) c.header-bytes.ensures.exact in
+    let gated = c.in-Ok.ensures.done quiet unmade in
+    let opened = c.in-Ok-open_behind.ensures.done [] (header_inner c.args.vertices) gated.shut refl body_is in
+    record { shut = opened.shut; told = told_on (g.D.Disk.seen c.args.disk.now) (g.D.Disk.seen c.close_gate.new.disk) (g.D.Disk.seen c.open_behind.new.disk) _ _ gated.short opened.told }

@@ -1,0 +1,34 @@
+// Reading a disk whole.
+ghost use Rattle.std.specs.Prelude.{◌≤◌};
+ghost use Rattle.go_durable.specs.Reading.{IsLookedAt, ReadsWhole};
+ghost use Rattle.go_durable.specs.Standing.{IsQuiet};
+
+use crate::fault::OpenFault;
+use crate::limits::FILE_LIMIT;
+use go_disk::Disk;
+use std::alloc::Global;
+
+// All the bytes, unless there are too many. An empty disk isn't read.
+pub(crate) fn read_whole<D: Disk>(alloc: Global, disk: &mut D) -> Result<Vec<u8>, OpenFault<()>>
+    ensures looked { IsQuiet D.seen D.base D.images disk.old →
+        IsLookedAt D.seen D.base D.images D.clock D.since disk.old disk.new }
+    ensures answer { ReadsWhole D.seen D.faults disk.old disk.new result }
+    ensures count { D.faults disk.old ≤ D.faults disk.new }
+{
+    let Ok(len) = disk.len() else {
+        return Err(OpenFault::Disk { disk: () });
+    };
+    if len > FILE_LIMIT {
+        return Err(OpenFault::TooLong { len, disk: () });
+    }
+    let Ok(mut bytes) = vec![in alloc; 0; len as usize] else {
+        return Err(OpenFault::Memory { disk: () });
+    };
+    if len == 0 {
+        return Ok(bytes);
+    }
+    let Ok(()) = disk.read(0, &mut bytes) else {
+        return Err(OpenFault::Disk { disk: () });
+    };
+    Ok(bytes)
+}
