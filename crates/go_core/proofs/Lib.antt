@@ -19,3 +19,5 @@ pub mod Runs
 pub mod Taken
 pub mod Durable
 pub mod Flags
+pub mod Abandoned
+pub mod Assured

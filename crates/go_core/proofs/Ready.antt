@@ -10,7 +10,7 @@ use lib.ListN.{get_elem?}
 use Rattle.go_word.specs.declared.edge.Edge.{Edge}
 use Rattle.go_word.specs.Word.{IsStorable}
 use Rattle.go_core.specs.declared.act.Act.{Act}
-use Rattle.go_core.specs.declared.act.Act.TheVariants.{Claim, LoadHead, LoadArchived, StoreWord, LoadOrdered, StoreArchived, Split, Join}
+use Rattle.go_core.specs.declared.act.Act.TheVariants.{Claim, LoadHead, LoadArchived, LoadDurable, StoreWord, LoadOrdered, LoadTentative, StoreArchived, StoreDurable, LoadFlag, StoreFlag, Split, Join}
 use Rattle.go_core.specs.declared.act.Out.{Out}
 use Rattle.go_core.specs.declared.act.Out.TheVariants.{Refused}
 use Rattle.go_core.specs.declared.entry.Entry.{Entry}
@@ -27,7 +27,7 @@ use Rattle.go_core.proofs.Entries.{count_at-Contains}
 use Rattle.go_core.proofs.Rows.{view_at, row_keeps}
 
 -- a party's view takes part in the sums, or it is that of an absent party
-seated_or_absent : (m : Machine) (i : ℕ) → (get_elem? (views_of m.parties) i ≡ some (party_at m i).view) ⊎ (party_at m i ≡ absent)
+pub seated_or_absent : (m : Machine) (i : ℕ) → (get_elem? (views_of m.parties) i ≡ some (party_at m i).view) ⊎ (party_at m i ≡ absent)
 seated_or_absent m i =
     ⊎_elim
     (λ (within : i < length m.parties).
@@ -85,9 +85,14 @@ pub row_dead : (m : Machine) (i : ℕ) (act : Act) → ((party_at m i).view.live
 row_dead m i (Claim edges) dead = inr ((λ can. dead can.0), refl, refl)
 row_dead m i LoadHead dead = inr (dead, refl, refl)
 row_dead m i LoadArchived dead = inr (dead, refl, refl)
+row_dead m i LoadDurable dead = inr (dead, refl, refl)
 row_dead m i (StoreWord at) dead = stores_dead m i at (find (stands_at at) (party_at m i).view.pending) dead
 row_dead m i (LoadOrdered at) dead = inr ((λ can. dead can.0), refl, refl)
+row_dead m i (LoadTentative at) dead = inr ((λ can. dead can.0), refl, refl)
 row_dead m i (StoreArchived front) dead = inr ((λ can. dead can.0), refl, refl)
+row_dead m i (StoreDurable front) dead = inr ((λ can. dead can.0), refl, refl)
+row_dead m i LoadFlag dead = inr (dead, refl, refl)
+row_dead m i (StoreFlag why) dead = inr ((λ can. dead can.0), refl, refl)
 row_dead m i Split dead = inr ((λ can. dead can.0), refl, refl)
 row_dead m i (Join j) dead = inr ((λ can. dead can.0), refl, refl)
 

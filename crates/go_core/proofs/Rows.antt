@@ -10,7 +10,7 @@ use lib.ListN.{get_elem?}
 use Rattle.go_word.specs.declared.edge.Edge.{Edge}
 use Rattle.go_word.specs.Word.{word, is_matched}
 use Rattle.go_core.specs.declared.act.Act.{Act}
-use Rattle.go_core.specs.declared.act.Act.TheVariants.{Claim, LoadHead, LoadArchived, StoreWord, LoadOrdered, StoreArchived, Split, Join}
+use Rattle.go_core.specs.declared.act.Act.TheVariants.{Claim, LoadHead, LoadArchived, LoadDurable, StoreWord, LoadOrdered, LoadTentative, StoreArchived, StoreDurable, LoadFlag, StoreFlag, Split, Join}
 use Rattle.go_core.specs.declared.act.Out.{Out}
 use Rattle.go_core.specs.declared.entry.Entry.{Entry}
 use Rattle.go_core.specs.declared.view.View.{View}
@@ -25,6 +25,8 @@ use Rattle.go_core.proofs.Loads.{unmoved_keeps, head_loaded, archived_loaded, ma
 use Rattle.go_core.proofs.Claims.{claim_keeps}
 use Rattle.go_core.proofs.Stores.{store_keeps}
 use Rattle.go_core.proofs.Fronts.{archived_stored}
+use Rattle.go_core.proofs.Durable.{durable_loaded, durable_stored, tentative_loaded}
+use Rattle.go_core.proofs.Flags.{flag_stored}
 use Rattle.go_core.proofs.Splits.{split_keeps, join_keeps}
 
 -- a party's view is among the views
@@ -139,16 +141,42 @@ row_keeps m i LoadArchived out now log row tied =
     none_claimed now log
     (done_or_not _ _ _ m out now log tied
     (λ live. with_views m m.words _ log _ (views-set m.parties i _) (archived_loaded m.frame log m.words (views_of m.parties) i (party_at m i).view (party_there m i live) live tied.tied) tied.fits) row)
+row_keeps m i LoadDurable out now log row tied =
+    none_claimed now log
+    (done_or_not _ _ _ m out now log tied
+    (λ live. with_views m m.words _ log _ (views-set m.parties i _) (durable_loaded m.frame log m.words (views_of m.parties) i (party_at m i).view (party_there m i live) live tied.tied) tied.fits) row)
 row_keeps m i (StoreWord at) out now log row tied = none_claimed now log (stores_keep m i at _ out now log refl row tied)
 row_keeps m i (LoadOrdered at) out now log row tied =
     none_claimed now log
     (done_or_not _ _ _ m out now log tied (λ can. took_or_not m i at log can.0 can.1 tied (is_matched m.frame.slots at (slot m.frame m.words at)) refl) row)
+row_keeps m i (LoadTentative at) out now log row tied =
+    none_claimed now log
+    (done_or_not _ _ _ m out now log tied
+    (λ can.
+    with_views m m.words _ log _ (views-set m.parties i _)
+    (tentative_loaded m.frame log m.words (views_of m.parties) i (party_at m i).view at (party_there m i can.0) can.0 can.1 tied.tied) tied.fits) row)
 row_keeps m i (StoreArchived front) out now log row tied =
     none_claimed now log
     (done_or_not _ _ _ m out now log tied
     (λ can.
     with_views m _ _ log _ (views-set m.parties i _)
     (archived_stored m.frame log m.words (views_of m.parties) i (party_at m i).view front (party_there m i can.0) can.0 can.1.role can.1.onward can.1.taken tied.tied) tied.fits) row)
+row_keeps m i (StoreDurable front) out now log row tied =
+    none_claimed now log
+    (done_or_not _ _ _ m out now log tied
+    (λ can.
+    with_views m _ _ log _ (views-set m.parties i _)
+    (durable_stored m.frame log m.words (views_of m.parties) i (party_at m i).view front (party_there m i can.0) can.0 can.1.role can.1.onward can.1.taken tied.tied) tied.fits) row)
+row_keeps m i LoadFlag out now log row tied =
+    none_claimed now log
+    (done_or_not _ _ _ m out now log tied
+    (λ live. with_views m m.words _ log _ (views-set m.parties i _) (unmoved_keeps m.frame log m.words (views_of m.parties) i (party_at m i).view (party_there m i live) live tied.tied) tied.fits) row)
+row_keeps m i (StoreFlag why) out now log row tied =
+    none_claimed now log
+    (done_or_not _ _ _ m out now log tied
+    (λ can.
+    with_views m _ _ log _ (views-set m.parties i _)
+    (flag_stored m.frame log m.words (views_of m.parties) i (party_at m i).view why (party_there m i can.0) can.0 can.1 tied.tied) tied.fits) row)
 row_keeps m i Split out now log row tied =
     none_claimed now log
     (done_or_not _ _ _ m out now log tied

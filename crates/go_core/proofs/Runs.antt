@@ -7,7 +7,7 @@ use lib.ListN.{get_elem?}
 use Rattle.go_word.specs.declared.edge.Edge.{Edge}
 use Rattle.go_word.specs.Word.{is_matched, decode}
 use Rattle.go_core.specs.declared.act.Act.{Act}
-use Rattle.go_core.specs.declared.act.Act.TheVariants.{Claim, LoadHead, LoadArchived, StoreWord, LoadOrdered, StoreArchived, Split, Join}
+use Rattle.go_core.specs.declared.act.Act.TheVariants.{Claim, LoadHead, LoadArchived, LoadDurable, StoreWord, LoadOrdered, LoadTentative, StoreArchived, StoreDurable, LoadFlag, StoreFlag, Split, Join}
 use Rattle.go_core.specs.declared.act.Event.{Event}
 use Rattle.go_core.specs.declared.act.Out.{Out}
 use Rattle.go_core.specs.declared.act.Out.TheVariants.{Word, Refused}
@@ -15,7 +15,8 @@ use Rattle.go_core.specs.declared.entry.Entry.{Entry}
 use Rattle.go_core.specs.Frame.{place, slot, head_in, archived_in, durable_in, released}
 use Rattle.go_core.specs.View.{stands_at}
 use Rattle.go_core.specs.Acts.{CanTake}
-use Rattle.go_core.specs.Machine.{Machine, IsTied, views_of, party_at, Does, Stores, Row, claims, Run, all_claims, IsRead}
+use Rattle.go_core.specs.Machine.{Machine, IsTied, views_of, party_at, Does, Stores, Row, claims}
+use Rattle.go_core.specs.History.{Run, all_claims, IsRead}
 use Rattle.go_core.proofs.Lookups.{lookup-longer}
 use Rattle.go_core.proofs.Loads.{matched_is, matched-decode}
 use Rattle.go_core.proofs.Claims.{word_here, word_other}
@@ -35,9 +36,14 @@ pub row_frame : (m : Machine) (i : ℕ) (act : Act) (out : Out) (now : Machine) 
 row_frame m i (Claim edges) out now row = either_way (λ n. n.frame ≡ m.frame) _ _ _ m out now refl (λ can. refl) row
 row_frame m i LoadHead out now row = either_way (λ n. n.frame ≡ m.frame) _ _ _ m out now refl (λ can. refl) row
 row_frame m i LoadArchived out now row = either_way (λ n. n.frame ≡ m.frame) _ _ _ m out now refl (λ can. refl) row
+row_frame m i LoadDurable out now row = either_way (λ n. n.frame ≡ m.frame) _ _ _ m out now refl (λ can. refl) row
 row_frame m i (StoreWord at) out now row = stores_either (λ n. n.frame ≡ m.frame) m i at (find (stands_at at) (party_at m i).view.pending) out now refl (λ k n after words frame. frame) row
 row_frame m i (LoadOrdered at) out now row = either_way (λ n. n.frame ≡ m.frame) _ _ _ m out now refl (λ can. refl) row
+row_frame m i (LoadTentative at) out now row = either_way (λ n. n.frame ≡ m.frame) _ _ _ m out now refl (λ can. refl) row
 row_frame m i (StoreArchived front) out now row = either_way (λ n. n.frame ≡ m.frame) _ _ _ m out now refl (λ can. refl) row
+row_frame m i (StoreDurable front) out now row = either_way (λ n. n.frame ≡ m.frame) _ _ _ m out now refl (λ can. refl) row
+row_frame m i LoadFlag out now row = either_way (λ n. n.frame ≡ m.frame) _ _ _ m out now refl (λ can. refl) row
+row_frame m i (StoreFlag why) out now row = either_way (λ n. n.frame ≡ m.frame) _ _ _ m out now refl (λ can. refl) row
 row_frame m i Split out now row = either_way (λ n. n.frame ≡ m.frame) _ _ _ m out now refl (λ can. refl) row
 row_frame m i (Join j) out now row = either_way (λ n. n.frame ≡ m.frame) _ _ _ m out now refl (λ can. refl) row
 
@@ -55,6 +61,7 @@ row_released m i (Claim edges) out now log row tied =
     (λ can. let same = past_fronts m.words 0 (head_in m.words + length edges) (λ e. omega arith) (λ e. omega arith) in omega arith) row
 row_released m i LoadHead out now log row tied = either_way (λ n. released m.words ≤ released n.words) _ _ _ m out now (omega arith) (λ can. omega arith) row
 row_released m i LoadArchived out now log row tied = either_way (λ n. released m.words ≤ released n.words) _ _ _ m out now (omega arith) (λ can. omega arith) row
+row_released m i LoadDurable out now log row tied = either_way (λ n. released m.words ≤ released n.words) _ _ _ m out now (omega arith) (λ can. omega arith) row
 row_released m i (StoreWord at) out now log row tied =
     let base = tied.tied.ringed.four_words in
     stores_either (λ n. released m.words ≤ released n.words) m i at (find (stands_at at) (party_at m i).view.pending) out now (omega arith)
@@ -63,6 +70,7 @@ row_released m i (StoreWord at) out now log row tied =
     let is : released after.words ≡ released (set m.words (place m.frame at) n) = ap released words in
     omega arith)) row
 row_released m i (LoadOrdered at) out now log row tied = either_way (λ n. released m.words ≤ released n.words) _ _ _ m out now (omega arith) (λ can. omega arith) row
+row_released m i (LoadTentative at) out now log row tied = either_way (λ n. released m.words ≤ released n.words) _ _ _ m out now (omega arith) (λ can. omega arith) row
 row_released m i (StoreArchived front) out now log row tied =
     let r = tied.tied.ringed in
     let base = r.four_words in
@@ -73,6 +81,19 @@ row_released m i (StoreArchived front) out now log row tied =
     let archived : archived_in (set m.words 1 front) ≡ front = word_here m.words 1 front (omega arith) in
     let durable : durable_in (set m.words 1 front) ≡ durable_in m.words = word_other m.words 1 2 front (λ e. omega arith) in
     omega arith)) row
+row_released m i (StoreDurable front) out now log row tied =
+    let r = tied.tied.ringed in
+    let base = r.four_words in
+    let all = r.all_words in
+    either_way (λ n. released m.words ≤ released n.words) _ _ _ m out now (omega arith)
+    (λ can.
+    (let onward = can.1.onward in
+    let durable : durable_in (set m.words 2 front) ≡ front = word_here m.words 2 front (omega arith) in
+    let archived : archived_in (set m.words 2 front) ≡ archived_in m.words = word_other m.words 2 1 front (λ e. omega arith) in
+    omega arith)) row
+row_released m i LoadFlag out now log row tied = either_way (λ n. released m.words ≤ released n.words) _ _ _ m out now (omega arith) (λ can. omega arith) row
+row_released m i (StoreFlag why) out now log row tied =
+    either_way (λ n. released m.words ≤ released n.words) _ _ _ m out now (omega arith) (λ can. let same = past_fronts m.words 3 why (λ e. omega arith) (λ e. omega arith) in omega arith) row
 row_released m i Split out now log row tied = either_way (λ n. released m.words ≤ released n.words) _ _ _ m out now (omega arith) (λ can. omega arith) row
 row_released m i (Join j) out now log row tied = either_way (λ n. released m.words ≤ released n.words) _ _ _ m out now (omega arith) (λ can. omega arith) row
 

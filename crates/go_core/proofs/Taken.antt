@@ -6,7 +6,7 @@ use Rattle.std.proofs.lemmas.List.{get_or-set_same, get_or-set_other, set_past, 
 use mathlib.Core.Option.{some}
 use Rattle.go_word.specs.Word.{is_matched}
 use Rattle.go_core.specs.declared.act.Act.{Act}
-use Rattle.go_core.specs.declared.act.Act.TheVariants.{Claim, LoadHead, LoadArchived, StoreWord, LoadOrdered, StoreArchived, Split, Join}
+use Rattle.go_core.specs.declared.act.Act.TheVariants.{Claim, LoadHead, LoadArchived, LoadDurable, StoreWord, LoadOrdered, LoadTentative, StoreArchived, StoreDurable, LoadFlag, StoreFlag, Split, Join}
 use Rattle.go_core.specs.declared.act.Event.{Event}
 use Rattle.go_core.specs.declared.act.Out.{Out}
 use Rattle.go_core.specs.declared.act.Out.TheVariants.{Word, Done}
@@ -16,7 +16,8 @@ use Rattle.go_core.specs.declared.party.Party.{Party}
 use Rattle.go_core.specs.Frame.{slot}
 use Rattle.go_core.specs.View.{stands_at, took, unmoved}
 use Rattle.go_core.specs.Acts.{CanJoin}
-use Rattle.go_core.specs.Machine.{Machine, absent, party_at, with_view, Does, Stores, Row, Run, IsWorker, HasTaken}
+use Rattle.go_core.specs.Machine.{Machine, absent, party_at, with_view, Does, Stores, Row}
+use Rattle.go_core.specs.History.{Run, IsWorker, HasTaken}
 use Rattle.go_core.proofs.Runs.{row_frame}
 
 -- two views with one role that have taken as much
@@ -132,10 +133,15 @@ row_worked : (m : Machine) (j : ℕ) (act : Act) (out : Out) (now : Machine) (i 
 row_worked m j (Claim edges) out now i row worker = worked_done _ _ _ m out now j _ i worker (λ can. same_worked m _ j _ _ i worker (set_work m.parties j i _ (record { archives = refl; flushes = refl; taken = refl }))) row
 row_worked m j LoadHead out now i row worker = worked_done _ _ _ m out now j _ i worker (λ can. same_worked m _ j _ _ i worker (set_work m.parties j i _ (record { archives = refl; flushes = refl; taken = refl }))) row
 row_worked m j LoadArchived out now i row worker = worked_done _ _ _ m out now j _ i worker (λ can. same_worked m _ j _ _ i worker (set_work m.parties j i _ (record { archives = refl; flushes = refl; taken = refl }))) row
+row_worked m j LoadDurable out now i row worker = worked_done _ _ _ m out now j _ i worker (λ can. same_worked m _ j _ _ i worker (set_work m.parties j i _ (record { archives = refl; flushes = refl; taken = refl }))) row
 row_worked m j (StoreWord at) out now i row worker = stores_worked m j at (find (stands_at at) (party_at m j).view.pending) out now (StoreWord at) i worker row
 row_worked m j (LoadOrdered at) out now i row worker =
     worked_done _ _ _ m out now j _ i worker (λ can. reads_worked m j at i worker can.1.next (live_within m j can.0) (is_matched m.frame.slots at (slot m.frame m.words at)) refl) row
+row_worked m j (LoadTentative at) out now i row worker = worked_done _ _ _ m out now j _ i worker (λ can. same_worked m _ j _ _ i worker (set_work m.parties j i _ (record { archives = refl; flushes = refl; taken = refl }))) row
 row_worked m j (StoreArchived front) out now i row worker = worked_done _ _ _ m out now j _ i worker (λ can. same_worked m _ j _ _ i worker (set_work m.parties j i _ (record { archives = refl; flushes = refl; taken = refl }))) row
+row_worked m j (StoreDurable front) out now i row worker = worked_done _ _ _ m out now j _ i worker (λ can. same_worked m _ j _ _ i worker (set_work m.parties j i _ (record { archives = refl; flushes = refl; taken = refl }))) row
+row_worked m j LoadFlag out now i row worker = worked_done _ _ _ m out now j _ i worker (λ can. same_worked m _ j _ _ i worker (set_work m.parties j i _ (record { archives = refl; flushes = refl; taken = refl }))) row
+row_worked m j (StoreFlag why) out now i row worker = worked_done _ _ _ m out now j _ i worker (λ can. same_worked m _ j _ _ i worker (set_work m.parties j i _ (record { archives = refl; flushes = refl; taken = refl }))) row
 row_worked m j Split out now i row worker =
     worked_done _ _ _ m out now j _ i worker
     (λ can.

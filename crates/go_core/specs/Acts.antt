@@ -37,9 +37,9 @@ pub record CanFlush (words : List ℕ) (v : View) (stake : Stake) (front : ℕ) 
   pub stood : front ≤ stake.file
 
 -- a word may be read ahead of its turn: within the window that the party knows, and below the length that it knows
-pub record CanReadAhead (f : Frame) (v : View) (at : ℕ) : Type 0 where
+pub record CanReadAhead (slots : ℕ) (v : View) (at : ℕ) : Type 0 where
   pub from : min v.archived v.durable ≤ at
-  pub to : at < min v.archived v.durable + f.slots
+  pub to : at < min v.archived v.durable + slots
   pub within : at < v.head
 
 -- why the flag may be raised: 1 is the disk, 2 is want of memory

@@ -1,22 +1,19 @@
 -- The machine without threads: its state, each act's row, and what a list of events makes of it.
 use Rattle.std.specs.Prelude.{◌≡◌, ◌≢◌, ◌⊎◌, ℕ, ◌+◌, ◌-◌, ◌^◌, ◌<◌, ◌≤◌, max, true, if◌then◌else◌, List, [], ◌∷◌, ◌++◌, map, length, set, slice_index_or, All, find, Option, Some, None}
-use mathlib.Core.Option.{some}
-use lib.ListN.{get_elem?}
 use Rattle.go_word.specs.declared.edge.Edge.{Edge}
 use Rattle.go_word.specs.Word.{IsStorable, word, is_matched}
 use Rattle.go_core.specs.declared.act.Act.{Act}
-use Rattle.go_core.specs.declared.act.Act.TheVariants.{Claim, LoadHead, LoadArchived, StoreWord, LoadOrdered, StoreArchived, Split, Join}
-use Rattle.go_core.specs.declared.act.Event.{Event}
+use Rattle.go_core.specs.declared.act.Act.TheVariants.{Claim, LoadHead, LoadArchived, LoadDurable, StoreWord, LoadOrdered, LoadTentative, StoreArchived, StoreDurable, LoadFlag, StoreFlag, Split, Join}
 use Rattle.go_core.specs.declared.act.Out.{Out}
 use Rattle.go_core.specs.declared.act.Out.TheVariants.{Number, Word, Done, Refused}
 use Rattle.go_core.specs.declared.entry.Entry.{Entry}
 use Rattle.go_core.specs.declared.view.View.{View}
 use Rattle.go_core.specs.declared.party.Stake.{Stake}
 use Rattle.go_core.specs.declared.party.Party.{Party}
-use Rattle.go_core.specs.Frame.{Frame, place, slot, head_in, archived_in}
-use Rattle.go_core.specs.View.{stands_at, spent, unmoved, claimed, knowing_head, knowing_archived, stored, took, archiving, split_off, joining}
+use Rattle.go_core.specs.Frame.{Frame, place, slot, head_in, archived_in, durable_in, flag_in}
+use Rattle.go_core.specs.View.{stands_at, spent, unmoved, claimed, knowing_head, knowing_archived, knowing_durable, stored, took, read_ahead, archiving, flushing, raising, split_off, joining}
 use Rattle.go_core.specs.Rule.{TiedBy}
-use Rattle.go_core.specs.Acts.{CanClaim, HasRoom, CanTake, CanArchive, CanJoin}
+use Rattle.go_core.specs.Acts.{CanClaim, HasRoom, CanTake, CanReadAhead, CanArchive, CanFlush, IsCause, CanJoin}
 
 -- the words and the parties, within a frame
 pub record Machine : Type 0 where
@@ -96,14 +93,30 @@ Row m i LoadHead out now =
 Row m i LoadArchived out now =
     let v = (party_at m i).view in
     Does (v.live ≡ true) (Number (archived_in m.words)) (with_view i (knowing_archived (archived_in m.words) v) m) m out now
+Row m i LoadDurable out now =
+    let v = (party_at m i).view in
+    Does (v.live ≡ true) (Number (durable_in m.words)) (with_view i (knowing_durable (durable_in m.words) v) m) m out now
 Row m i (StoreWord at) out now = Stores m i at (find (stands_at at) (party_at m i).view.pending) out now
 Row m i (LoadOrdered at) out now =
     let v = (party_at m i).view in
     let x = slot m.frame m.words at in
     Does ((v.live ≡ true) × CanTake m.words v at) (Word x) (with_view i (if is_matched m.frame.slots at x then took at v else unmoved v) m) m out now
+Row m i (LoadTentative at) out now =
+    let v = (party_at m i).view in
+    let x = slot m.frame m.words at in
+    Does ((v.live ≡ true) × CanReadAhead m.frame.slots v at) (Word x) (with_view i (read_ahead at x v) m) m out now
 Row m i (StoreArchived front) out now =
     let v = (party_at m i).view in
     Does ((v.live ≡ true) × CanArchive m.words v (party_at m i).stake front) Done (with_word 1 front (with_view i (archiving front v) m)) m out now
+Row m i (StoreDurable front) out now =
+    let v = (party_at m i).view in
+    Does ((v.live ≡ true) × CanFlush m.words v (party_at m i).stake front) Done (with_word 2 front (with_view i (flushing front v) m)) m out now
+Row m i LoadFlag out now =
+    let v = (party_at m i).view in
+    Does (v.live ≡ true) (Number (flag_in m.words)) (with_view i (unmoved v) m) m out now
+Row m i (StoreFlag why) out now =
+    let v = (party_at m i).view in
+    Does ((v.live ≡ true) × IsCause why) Done (with_word 3 why (with_view i (raising why v) m)) m out now
 Row m i Split out now =
     let v = (party_at m i).view in
     let new : Party = record { view = split_off v; stake = stake_off (party_at m i).stake } in
@@ -132,33 +145,3 @@ pub record IsReady (m : Machine) (i : ℕ) : Type 0 where
   pub words : length m.words ≡ 6 + m.frame.slots
   pub taken : (party_at m i).view.taken ≤ 2 ^ 48
   pub storable : All (λ x. IsStorable x.edge) (party_at m i).view.pending
-
--- as many events as there are answers, one after another
-abbrev pub Run : Machine → List Event → List Out → Machine → Type 0
-Run before es [] now = now ≡ before
-Run before [] (out ∷ outs) now = ⊥
-Run before (e ∷ es) (out ∷ outs) now = (next : Machine) × Row before e.party e.act out next × Run next es outs now
-
--- the entries by which events that were answered make the log longer
-abbrev pub all_claims : List Event → List Out → List Edge
-all_claims es [] = []
-all_claims [] (out ∷ outs) = []
-all_claims (e ∷ es) (out ∷ outs) = claims e.act out ++ all_claims es outs
-
--- an event among those that were answered is a word read in its turn at p, which was found to be x
-pub record IsRead (events : List Event) (answers : List Out) (k p x : ℕ) : Type 0 where
-  pub party : ℕ
-  pub event : get_elem? events k ≡ some (record { party = party; act = LoadOrdered p })
-  pub answer : get_elem? answers k ≡ some (Word x)
-
--- a party is a worker: it moves a front
-abbrev pub IsWorker : View → Type 0
-IsWorker v = (v.archives ≡ true) ⊎ (v.flushes ≡ true)
-
--- among the events that were answered, the party read the word of p in its turn and found it there
-pub record HasTaken (slots : ℕ) (events : List Event) (answers : List Out) (i p : ℕ) : Type 0 where
-  pub place : ℕ
-  pub word : ℕ
-  pub event : get_elem? events place ≡ some (record { party = i; act = LoadOrdered p })
-  pub answer : get_elem? answers place ≡ some (Word word)
-  pub matched : is_matched slots p word ≡ true

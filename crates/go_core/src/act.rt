@@ -21,12 +21,22 @@ pub enum Act {
     LoadHead,
     /// Reads the archived front.
     LoadArchived,
+    /// Reads the durable front.
+    LoadDurable,
     /// Writes the word of a pending entry into its slot.
     StoreWord { at: u64 },
     /// Reads a word in its turn, as a worker does.
     LoadOrdered { at: u64 },
+    /// Reads a word ahead of its turn, for a copy of what is newest.
+    LoadTentative { at: u64 },
     /// Moves the archived front.
     StoreArchived { front: u64 },
+    /// Moves the durable front.
+    StoreDurable { front: u64 },
+    /// Reads the flag.
+    LoadFlag,
+    /// Raises the flag: 1 is for the disk, 2 for want of memory.
+    StoreFlag { why: u64 },
     /// Splits off a new party.
     Split,
     /// Joins another party into this one.

@@ -1,7 +1,7 @@
 // Whether a party may do an act.
 ghost use Rattle.std.specs.Prelude.{◌≡◌, ◌↔◌, ◌<◌, ◌≤◌, IsTrue, length, All, slice_index_or, true};
 ghost use Rattle.go_word.specs.Word.{IsStorable};
-ghost use Rattle.go_core.specs.Acts.{CanClaim, CanTake, CanArchive, CanJoin};
+ghost use Rattle.go_core.specs.Acts.{CanClaim, CanTake, CanReadAhead, CanArchive, CanFlush, IsCause, CanJoin};
 ghost use Rattle.go_core.specs.Machine.{absent};
 
 use crate::party::{Party, Stake};
@@ -70,6 +70,29 @@ pub(crate) fn can_archive(words: &[u64], view: &View, stake: &Stake, front: u64)
     ensures { IsTrue result ↔ CanArchive words.now view.now stake.now front }
 {
     view.archives && words[1] <= front && front <= view.taken && front <= stake.shard
+}
+
+// Whether the durable front may be moved.
+pub(crate) fn can_flush(words: &[u64], view: &View, stake: &Stake, front: u64) -> bool
+    requires { 4 ≤ length words.now }
+    ensures { IsTrue result ↔ CanFlush words.now view.now stake.now front }
+{
+    view.flushes && words[2] <= front && front <= view.taken && front <= stake.file
+}
+
+// Whether a party may read the word of a position ahead of its turn.
+pub(crate) fn can_read_ahead(slots: u64, view: &View, at: u64) -> bool
+    ensures { IsTrue result ↔ CanReadAhead slots view.now at }
+{
+    let front = view.archived.min(view.durable);
+    front <= at && at - front < slots && at < view.head
+}
+
+// Whether the flag may be raised for this.
+pub(crate) fn is_cause(why: u64) -> bool
+    ensures { IsTrue result ↔ IsCause why }
+{
+    why == 1 || why == 2
 }
 
 // Whether a party may be joined into another.

@@ -7,12 +7,14 @@
 //! of `replay` over every list of events.
 //! `proofs/` exports a lemma for each kind of step over plain lists, so that a ring with threads
 //! that keeps the same rule can cite them; there no value of a `View` need be made.
-//! Left out: threads, how long a step takes, and the acts on the parts and of a copy.
+//! Left out: threads, how long a step takes, and the acts on the parts.
 #![tactic(auto)]
 
 mod act;
+mod causes;
 mod changes;
 mod conditions;
+mod copies;
 mod edges;
 mod entry;
 mod lists;
@@ -32,5 +34,7 @@ pub use party::{Party, Pin, Stake};
 pub use run::replay;
 pub use view::View;
 
+#[cfg(test)]
+mod random_tests;
 #[cfg(test)]
 mod tests;

@@ -4,7 +4,7 @@ ghost use Rattle.go_core.specs.Machine.{Row, IsReady, machine_of};
 
 use crate::act::{Act, Event, Out};
 use crate::party::Party;
-use crate::{conditions, steps};
+use crate::{causes, conditions, copies, steps};
 use std::alloc::{AllocError, Global};
 
 // Does the step of one party, or refuses it.
@@ -28,9 +28,14 @@ pub(crate) fn one(
         Act::Claim { edges } => steps::claim(alloc, words, parties, i, edges),
         Act::LoadHead => Ok(steps::load_head(words, parties, i)),
         Act::LoadArchived => steps::load_archived(alloc, words, parties, i),
+        Act::LoadDurable => copies::load_durable(alloc, words, parties, i),
         Act::StoreWord { at } => steps::store_word(slots, words, parties, i, *at),
         Act::LoadOrdered { at } => Ok(steps::load_ordered(slots, words, parties, i, *at)),
+        Act::LoadTentative { at } => copies::load_tentative(slots, words, parties, i, *at),
         Act::StoreArchived { front } => Ok(steps::store_archived(words, parties, i, *front)),
+        Act::StoreDurable { front } => Ok(steps::store_durable(words, parties, i, *front)),
+        Act::LoadFlag => Ok(causes::load_flag(words, parties, i)),
+        Act::StoreFlag { why } => Ok(causes::store_flag(words, parties, i, *why)),
         Act::Split => steps::split(alloc, parties, i),
         Act::Join { other } => steps::join(alloc, parties, i, *other as usize),
     }

@@ -23,6 +23,7 @@ ghost use Rattle.go_core.specs.declared.act.Act.TheVariants.{
   StoreWord,
   LoadOrdered,
   StoreArchived,
+  StoreDurable,
   Split,
   Join,
 };
@@ -98,7 +99,7 @@ pub(crate) fn load_archived(
 }
 
 // The place of a position's word.
-fn place_of(slots: u64, at: u64) -> usize
+pub(crate) fn place_of(slots: u64, at: u64) -> usize
     requires some { 0 < slots }
     requires few { slots ≤ 2 ^ 48 }
     ensures value { result ≡ 6 + at % slots }
@@ -182,6 +183,26 @@ pub(crate) fn store_archived(
     }
     party.view.archive(front);
     words[1] = front;
+    Out::Done
+}
+
+// A store of the durable front.
+pub(crate) fn store_durable(
+    words: &mut Vec<u64>,
+    parties: &mut Vec<Party>,
+    i: usize,
+    front: u64,
+) -> Out
+    requires words { 4 ≤ length words.old.items }
+    requires live { IsLiveAt parties.old.items i }
+    ensures { (slots first : ℕ) → Row (machine_of slots first words.old.items parties.old.items) i (StoreDurable front) result (machine_of slots first words.new.items parties.new.items) }
+{
+    let party = &mut parties[i];
+    if !conditions::can_flush(words, &party.view, &party.stake, front) {
+        return Out::Refused;
+    }
+    party.view.flush(front);
+    words[2] = front;
     Out::Done
 }
 
