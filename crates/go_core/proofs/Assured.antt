@@ -22,7 +22,8 @@ use Rattle.go_core.specs.History.{Run, all_claims, ReadsFront, IsFrontRead, IsAs
 use Rattle.go_core.proofs.Lookups.{lookup-some, lookup-longer}
 use Rattle.go_core.proofs.Loads.{in_window, matched-decode}
 use Rattle.go_core.proofs.Flags.{sure_tells}
-use Rattle.go_core.proofs.Rows.{party_there, row_keeps}
+use Rattle.go_core.proofs.Parted.{party_there}
+use Rattle.go_core.proofs.Rows.{row_keeps}
 use Rattle.go_core.proofs.Ready.{seated_or_absent}
 use Rattle.go_core.proofs.Runs.{row_frame, row_released}
 

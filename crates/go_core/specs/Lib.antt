@@ -5,5 +5,7 @@ pub mod History
 pub mod Machine
 pub mod Opening
 pub mod Parts
+pub mod Pins
 pub mod Rule
+pub mod Turns
 pub mod View

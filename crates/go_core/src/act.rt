@@ -1,5 +1,6 @@
 // What a party may do, and what it is answered.
 use crate::edges::EdgeSeq;
+use crate::part::PartState;
 
 /// What a party is there for. A party that is split off is a session.
 #[derive(Clone, Copy, Debug, PartialEq, Eq)]
@@ -33,6 +34,14 @@ pub enum Act {
     StoreArchived { front: u64 },
     /// Moves the durable front.
     StoreDurable { front: u64 },
+    /// Takes the turn of a part, 0 for the shard and 1 for the file, where nobody has it.
+    TakeTurn { part: u32 },
+    /// Takes a part out of its home, by its turn.
+    PartOut { part: u32 },
+    /// Puts a part into its home again, as it is now.
+    PartIn { part: u32, state: PartState },
+    /// Gives the turn of a part back.
+    GiveTurn { part: u32 },
     /// Reads the flag.
     LoadFlag,
     /// Raises the flag: 1 is for the disk, 2 for want of memory.

@@ -11,6 +11,7 @@ ghost use Rattle.std.specs.Prelude.{
   OnErr,
 };
 ghost use Rattle.go_core.specs.declared.act.Act.TheVariants.{LoadDurable, LoadTentative};
+ghost use Rattle.go_core.specs.declared.home.Parts.{Parts};
 ghost use Rattle.go_core.specs.Machine.{Row, machine_of, IsLiveAt};
 
 use crate::act::Out;
@@ -27,7 +28,7 @@ pub(crate) fn load_durable(
 ) -> Result<Out, AllocError>
     requires words { 4 ≤ length words.now }
     requires live { IsLiveAt parties.old.items i }
-    ensures row { IfOk result (λ out. (slots first : ℕ) → Row (machine_of slots first words.now parties.old.items) i LoadDurable out (machine_of slots first words.now parties.new.items)) }
+    ensures row { IfOk result (λ out. (slots first : ℕ) (parts : Parts) → Row (machine_of slots first words.now parties.old.items parts) i LoadDurable out (machine_of slots first words.now parties.new.items parts)) }
     ensures err { OnErr result (parties.new.items ≡ parties.old.items) }
 {
     let front = words[2];
@@ -48,7 +49,7 @@ pub(crate) fn load_tentative(
     requires few { slots ≤ 2 ^ 48 }
     requires words { length words.now ≡ 6 + slots }
     requires live { IsLiveAt parties.old.items i }
-    ensures row { IfOk result (λ out. (first : ℕ) → Row (machine_of slots first words.now parties.old.items) i (LoadTentative at) out (machine_of slots first words.now parties.new.items)) }
+    ensures row { IfOk result (λ out. (first : ℕ) (parts : Parts) → Row (machine_of slots first words.now parties.old.items parts) i (LoadTentative at) out (machine_of slots first words.now parties.new.items parts)) }
     ensures err { OnErr result (parties.new.items ≡ parties.old.items) }
 {
     let party = &mut parties[i];
