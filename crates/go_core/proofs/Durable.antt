@@ -166,7 +166,7 @@ told f log words views marked p tied all_seen to =
     inr (inr (r.waits p from to not, unseen))) (written_or_not log views p)) (cases_lt p (released words))
 
 -- a word that is read ahead, within the window that the party knows, is sound
-pub tentative_loaded : (f : Frame) (log : List Edge) (words : List ℕ) (views : List View) (i : ℕ) (v : View) (p : ℕ) → get_elem? views i ≡ some v → v.live ≡ true → CanReadAhead f v p → TiedBy f log words views
+pub tentative_loaded : (f : Frame) (log : List Edge) (words : List ℕ) (views : List View) (i : ℕ) (v : View) (p : ℕ) → get_elem? views i ≡ some v → v.live ≡ true → CanReadAhead f.slots v p → TiedBy f log words views
     → TiedBy f log words (set views i (read_ahead p (slot f words p) v))
 tentative_loaded f log words views i v p there live can tied =
     let s = tied.seated i v there in

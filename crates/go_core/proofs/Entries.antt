@@ -1,7 +1,7 @@
 -- How often a position stands in a list of entries: after a claim, a store and a merge; and that own entries stay in order.
 use Rattle.std.proofs.Common.{add-zero, take-append-drop, ◌≡◌, ℕ, zero, suc, ◌+◌, ◌-◌, ◌<◌, ◌≤◌, ◌≢◌, Bool, true, false, cond, List, [], ◌∷◌, ◌++◌, length, get_or, take, drop, sym, refl, ap, ◌∙◌, ⊎_elim, arith, subst}
 use Rattle.std.specs.Prelude.{All, Contains}
-use Rattle.std.proofs.lemmas.Bool.{cases_Bool}
+use Rattle.std.proofs.lemmas.Bool.{cases_Bool, cases_eq}
 use Rattle.std.proofs.Math.Nat.{eq-or-lt_of_le}
 use Rattle.std.proofs.lemmas.Bool.Decides.{nat_tests}
 use Rattle.std.proofs.lemmas.List.Sums.{sum_by-cons, sum_by-append}
@@ -104,6 +104,15 @@ count_at-without_other q p (x ∷ xs) ne =
     let more : count_at q (x ∷ without p xs) ≡ bit q x + count_at q (without p xs) = count_at-cons q x (without p xs) in
     ap (λ b. count_at q (kept b x xs (without p xs))) other ∙ omega arith)
     (cases_Bool (stands_at p x))
+
+-- so no position stands more often than before
+pub count_at-without_le : (q p : ℕ) (xs : List Entry) → count_at q (without p xs) ≤ count_at q xs
+count_at-without_le q p xs =
+    ⊎_elim
+    (λ (here : q ≡ p).
+    let gone : count_at q (without p xs) ≡ count_at q xs - 1 = ap (λ k. count_at k (without p xs)) here ∙ count_at-without_here p xs ∙ ap (λ k. count_at k xs - 1) (sym here) in
+    omega arith)
+    (λ (other : q ≢ p). let same : count_at q (without p xs) ≡ count_at q xs = count_at-without_other q p xs other in omega arith) (cases_eq q p)
 
 -- what is left has what all had
 pub All-without : (P : Entry → Type 0) (p : ℕ) (xs : List Entry) → All P xs → All P (without p xs)

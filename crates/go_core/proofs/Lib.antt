@@ -19,3 +19,12 @@ pub mod Runs
 pub mod Taken
 pub mod Durable
 pub mod Flags
+pub mod Abandoned
+pub mod Assured
+pub mod PinLaws
+pub mod TurnLaws
+pub mod Pinned
+pub mod PartLaws
+pub mod Parted
+pub mod TurnSteps
+pub mod Sharing

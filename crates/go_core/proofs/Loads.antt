@@ -157,7 +157,7 @@ pub record IsNext (f : Frame) (log : List Edge) (words : List ℕ) (views : List
   pub is : slot f words p ≡ word f.slots p edge
 
 -- within the window its slot says so
-in_window : (f : Frame) (log : List Edge) (words : List ℕ) (views : List View) (p : ℕ) → Ringed f log words views → released words ≤ p → p < released words + f.slots → is_matched f.slots p (slot f words p) ≡ true → IsNext f log words views p
+pub in_window : (f : Frame) (log : List Edge) (words : List ℕ) (views : List View) (p : ℕ) → Ringed f log words views → released words ≤ p → p < released words + f.slots → is_matched f.slots p (slot f words p) ≡ true → IsNext f log words views p
 in_window f log words views p r from to matched =
     ⊎_elim
     (λ (written : IsWritten log views p).

@@ -1,24 +1,31 @@
 -- A machine that begins is tied to every log of as many entries as lie before its first position.
-use Rattle.std.proofs.Common.{◌≡◌, ℕ, ◌+◌, ◌*◌, ◌^◌, ◌<◌, ◌≤◌, Bool, true, false, cond, List, [], ◌∷◌, ◌++◌, map, length, set, take, replicate, sym, refl, ap, ◌∙◌, arith, subst}
-use Rattle.std.specs.Prelude.{All, sum_by, count_by, slice_index}
+use Rattle.std.proofs.Common.{◌≡◌, ℕ, zero, suc, ◌+◌, ◌*◌, ◌^◌, ◌<◌, ◌≤◌, Bool, true, false, cond, List, [], ◌∷◌, ◌++◌, map, length, set, take, replicate, sym, refl, ap, ◌∙◌, arith, subst}
+use Rattle.std.specs.Prelude.{All, Contains, Some, slice_get, sum_by, count_by, slice_index}
 use Rattle.std.proofs.lemmas.List.{length-set, length-replicate, get_or-replicate, take_at}
 use Rattle.std.proofs.lemmas.List.Sums.{sum_by-cons}
 use Rattle.std.proofs.lemmas.List.Elements.{All-cons}
 use Rattle.go_core.specs.declared.act.Role.{Role}
+use Rattle.go_core.specs.declared.act.Role.TheVariants.{Session}
+use Rattle.go_core.specs.declared.part.PartState.{PartState}
+use Rattle.go_core.specs.declared.stake.Stake.{Stake}
 use Rattle.std.proofs.lemmas.List.Sums.{sum_by-le}
 use Rattle.std.proofs.lemmas.List.Elements.{All-nil, All-weaker}
 use Rattle.go_word.specs.declared.edge.Edge.{Edge}
 use Rattle.go_word.specs.Word.{is_matched, blank_word}
 use Rattle.go_word.proofs.WordLaws.{is_matched-blank_word}
 use Rattle.go_core.specs.declared.view.View.{View}
-use Rattle.go_core.specs.Frame.{Frame, slot}
+use Rattle.go_core.specs.Frame.{Frame, slot, archived_in, durable_in}
 use Rattle.go_core.specs.View.{unfilled, stands}
 use Rattle.go_core.specs.Rule.{IsOf, owed, IsWritten, AreOwn, IsSound, Seated, TiedBy}
-use Rattle.go_core.specs.Opening.{AreOpening, opening_view, opening_party, archives_as, flushes_as}
-use Rattle.go_core.specs.Machine.{IsTied, views_of, frame_of, machine_of}
+use Rattle.go_core.specs.Opening.{AreOpening, opening_view, opening_party, opening_home, opening_parts, archives_as, flushes_as}
+use Rattle.go_core.specs.Parts.{Reaches, IsPartOf, IsShardOf, IsPinnedBy, owns}
+use Rattle.go_core.specs.Turns.{hold_of, home_of}
+use Rattle.go_core.specs.Machine.{IsTied, AreParted, views_of, stakes_of, states_of, turn_in, frame_of, machine_of}
 use Rattle.go_core.proofs.Lookups.{lookup-within}
 use Rattle.go_core.proofs.Claims.{All-lookup, word_here, word_other}
 use Rattle.go_core.proofs.Splits.{own_none}
+use Rattle.go_core.proofs.TurnLaws.{count-none}
+use Rattle.std.proofs.lemmas.Option.{same_Some, none-some}
 
 -- a view is one of the beginning, with whatever role
 abbrev pub IsOpening : ℕ → View → Type 0
@@ -147,13 +154,75 @@ count_roles g h first same (r ∷ rs) =
     let one : bit_of (g (opening_party first r).view) ≡ bit_of (h r) = ap bit_of (same r) in
     omega (arith, sum_by-cons (λ v. bit_of (g v)) (opening_party first r).view (views_of (map (opening_party first) rs)), sum_by-cons (λ q. bit_of (h q)) r rs)
 
+-- the stakes of parties at the beginning
+opening_stakes : (P : Stake → Type 0) (first : ℕ) (roles : List Role) → P (opening_party first Session).stake → All P (stakes_of (map (opening_party first) roles))
+opening_stakes P first [] one = All-nil P
+opening_stakes P first (r ∷ rs) one = All-cons P (opening_party first r).stake (stakes_of (map (opening_party first) rs)) one (opening_stakes P first rs one)
+
+-- both parts reach to the first position, and nobody holds anything
+opening_parted : (slots first : ℕ) (words : List ℕ) (roles : List Role) (log : List Edge) → AreOpening (frame_of slots first) words → length log ≡ first → TiedBy (frame_of slots first) log words (views_of (map (opening_party first) roles)) → AreParted (machine_of slots first words (map (opening_party first) roles) (opening_parts first)) log
+opening_parted slots first words roles log o long tied =
+    let m = machine_of slots first words (map (opening_party first) roles) (opening_parts first) in
+    let f = frame_of slots first in
+    let stakes = stakes_of m.parties in
+    let archived = o.archived in
+    let durable = o.durable in
+    let part : PartState = (opening_home first).part in
+    let one : (place : ℕ) (p : PartState) → slice_get (states_of m.parts) place ≡ Some p → part ≡ p = one_part first in
+    record {
+      two = refl;
+      parts = record {
+        of_log = λ place p there.
+            subst (IsPartOf (λ (s : PartState). s) Reaches log (views_of m.parties)) (one place p there)
+            (record { stands = omega arith; written = λ q below. tied.ringed.archived_written q (omega arith) });
+        shards = λ place p there shard.
+            subst (IsShardOf (archived_in words)) (one place p there)
+            (record { archived_to = omega arith; cut_to = omega arith; cut_pins = All-nil (λ pin. 0 ≤ pin.front); pins_to = All-nil (λ pin. pin.front ≤ archived_in words) });
+        file = λ place p there file. subst (λ (s : PartState). durable_in words ≤ s.front) (one place p there) (omega arith);
+      };
+      turns = λ b.
+          (let none : turn_in b words ≡ 0 = turn_none slots first words o b in
+          let nobody : count_by (λ s. (hold_of b s).turn) stakes ≡ 0 = count-none (λ s. (hold_of b s).turn) stakes (opening_stakes (λ s. (hold_of b s).turn ≡ false) first roles (free b first)) in
+          record { counts = nobody ∙ sym none; one = omega arith });
+      homes = λ b out. absurd (at_home b first out);
+      known = λ b. opening_stakes (λ s. (hold_of b s).front ≤ (home_of b m.parts).part.front) first roles (known_to b first);
+      pinned = record {
+        each = opening_stakes (IsPinnedBy (λ (s : Stake). s.pins) (λ s. s.put) (λ s. s.shard.turn) []) first roles (record { pinned = λ free. All-nil (Contains []); none_put = λ free. refl });
+        apart = λ id.
+            (let nobody : count_by (owns (λ (s : Stake). s.pins) (λ s. s.put) id) stakes ≡ 0 = count-none (owns (λ (s : Stake). s.pins) (λ s. s.put) id) stakes (opening_stakes (λ s. owns (λ (s : Stake). s.pins) (λ s. s.put) id s ≡ false) first roles refl) in
+            omega arith);
+      };
+    }
+  where
+    one_part : (first place : ℕ) (p : PartState) → slice_get (states_of (opening_parts first)) place ≡ Some p → (opening_home first).part ≡ p
+    one_part first zero p there = same_Some (opening_home first).part p there
+    one_part first (suc zero) p there = same_Some (opening_home first).part p there
+    one_part first (suc (suc place)) p there = absurd (none-some p there)
+
+    turn_none : (slots first : ℕ) (words : List ℕ) → AreOpening (frame_of slots first) words → (b : Bool) → turn_in b words ≡ 0
+    turn_none slots first words o true = o.turns 4 (omega arith) (omega arith)
+    turn_none slots first words o false = o.turns 5 (omega arith) (omega arith)
+
+    free : (b : Bool) (first : ℕ) → (hold_of b (opening_party first Session).stake).turn ≡ false
+    free true first = refl
+    free false first = refl
+
+    apart : false ≡ true → ⊥
+    apart e = cc
+
+    at_home : (b : Bool) (first : ℕ) → (home_of b (opening_parts first)).out ≡ true → ⊥
+    at_home true first out = apart out
+    at_home false first out = apart out
+
+    known_to : (b : Bool) (first : ℕ) → (hold_of b (opening_party first Session).stake).front ≤ (home_of b (opening_parts first)).part.front
+    known_to true first = omega arith
+    known_to false first = omega arith
+
 -- a machine that begins is tied to every log of as many entries as come before its first position
-pub opening_machine : (slots first : ℕ) (words : List ℕ) (roles : List Role) → 0 < slots → first ≤ 2 ^ 48 → AreOpening (frame_of slots first) words → count_by archives_as roles ≤ 1 → count_by flushes_as roles ≤ 1 → (log : List Edge) → length log ≡ first → IsTied (machine_of slots first words (map (opening_party first) roles)) log
+pub opening_machine : (slots first : ℕ) (words : List ℕ) (roles : List Role) → 0 < slots → first ≤ 2 ^ 48 → AreOpening (frame_of slots first) words → count_by archives_as roles ≤ 1 → count_by flushes_as roles ≤ 1 → (log : List Edge) → length log ≡ first → IsTied (machine_of slots first words (map (opening_party first) roles) (opening_parts first)) log
 opening_machine slots first words roles any few opening archivers flushers log long =
     let views = views_of (map (opening_party first) roles) in
     let a : count_by (λ v. v.archives) views ≡ count_by archives_as roles = count_roles (λ v. v.archives) archives_as first (λ r. refl) roles in
     let b : count_by (λ v. v.flushes) views ≡ count_by flushes_as roles = count_roles (λ v. v.flushes) flushes_as first (λ r. refl) roles in
-    record {
-      tied = opening_tied (frame_of slots first) log words views any (omega arith) opening long (opening_views first roles) (omega arith) (omega arith);
-      fits = omega arith;
-    }
+    let tied = opening_tied (frame_of slots first) log words views any (omega arith) opening long (opening_views first roles) (omega arith) (omega arith) in
+    record { tied = tied; parted = opening_parted slots first words roles log opening long tied; fits = omega arith }

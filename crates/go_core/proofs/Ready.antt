@@ -10,12 +10,13 @@ use lib.ListN.{get_elem?}
 use Rattle.go_word.specs.declared.edge.Edge.{Edge}
 use Rattle.go_word.specs.Word.{IsStorable}
 use Rattle.go_core.specs.declared.act.Act.{Act}
-use Rattle.go_core.specs.declared.act.Act.TheVariants.{Claim, LoadHead, LoadArchived, StoreWord, LoadOrdered, StoreArchived, Split, Join}
+use Rattle.go_core.specs.declared.act.Act.TheVariants.{Claim, LoadHead, LoadArchived, LoadDurable, StoreWord, LoadOrdered, LoadTentative, StoreArchived, StoreDurable, TakeTurn, PartOut, PartIn, GiveTurn, LoadFlag, StoreFlag, Split, Join}
 use Rattle.go_core.specs.declared.act.Out.{Out}
 use Rattle.go_core.specs.declared.act.Out.TheVariants.{Refused}
 use Rattle.go_core.specs.declared.entry.Entry.{Entry}
 use Rattle.go_core.specs.declared.view.View.{View}
 use Rattle.go_core.specs.declared.party.Party.{Party}
+use Rattle.go_core.specs.declared.home.Parts.{Parts}
 use Rattle.go_core.specs.Frame.{Frame}
 use Rattle.go_core.specs.View.{stands_at, stands, count_at}
 use Rattle.go_core.specs.Acts.{HasRoom}
@@ -24,10 +25,11 @@ use Rattle.go_core.specs.Machine.{Machine, IsTied, Stands, IsReady, absent, view
 use Rattle.go_core.proofs.Lookups.{lookup-get_or}
 use Rattle.go_core.proofs.Totals.{term-le}
 use Rattle.go_core.proofs.Entries.{count_at-Contains}
-use Rattle.go_core.proofs.Rows.{view_at, row_keeps}
+use Rattle.go_core.proofs.Parted.{view_at}
+use Rattle.go_core.proofs.Rows.{row_keeps}
 
 -- a party's view takes part in the sums, or it is that of an absent party
-seated_or_absent : (m : Machine) (i : ℕ) → (get_elem? (views_of m.parties) i ≡ some (party_at m i).view) ⊎ (party_at m i ≡ absent)
+pub seated_or_absent : (m : Machine) (i : ℕ) → (get_elem? (views_of m.parties) i ≡ some (party_at m i).view) ⊎ (party_at m i ≡ absent)
 seated_or_absent m i =
     ⊎_elim
     (λ (within : i < length m.parties).
@@ -85,9 +87,18 @@ pub row_dead : (m : Machine) (i : ℕ) (act : Act) → ((party_at m i).view.live
 row_dead m i (Claim edges) dead = inr ((λ can. dead can.0), refl, refl)
 row_dead m i LoadHead dead = inr (dead, refl, refl)
 row_dead m i LoadArchived dead = inr (dead, refl, refl)
+row_dead m i LoadDurable dead = inr (dead, refl, refl)
 row_dead m i (StoreWord at) dead = stores_dead m i at (find (stands_at at) (party_at m i).view.pending) dead
 row_dead m i (LoadOrdered at) dead = inr ((λ can. dead can.0), refl, refl)
+row_dead m i (LoadTentative at) dead = inr ((λ can. dead can.0), refl, refl)
 row_dead m i (StoreArchived front) dead = inr ((λ can. dead can.0), refl, refl)
+row_dead m i (StoreDurable front) dead = inr ((λ can. dead can.0), refl, refl)
+row_dead m i (TakeTurn part) dead = inr ((λ can. dead can.0), refl, refl)
+row_dead m i (PartOut part) dead = inr ((λ can. dead can.0), refl, refl)
+row_dead m i (PartIn part state) dead = inr ((λ can. dead can.0), refl, refl)
+row_dead m i (GiveTurn part) dead = inr ((λ can. dead can.0), refl, refl)
+row_dead m i LoadFlag dead = inr (dead, refl, refl)
+row_dead m i (StoreFlag why) dead = inr ((λ can. dead can.0), refl, refl)
 row_dead m i Split dead = inr ((λ can. dead can.0), refl, refl)
 row_dead m i (Join j) dead = inr ((λ can. dead can.0), refl, refl)
 
@@ -95,30 +106,49 @@ row_dead m i (Join j) dead = inr ((λ can. dead can.0), refl, refl)
 pub stands_on : (m now : Machine) (log : List Edge) → now.frame ≡ m.frame → Stands m → IsTied now log → Stands now
 stands_on m now log frame stands tied = record { few = let old = stands.few in subst (λ (f : Frame). f.slots ≤ 2 ^ 48) (sym frame) old; log = log; tied = tied }
 
--- the row of an act that is known
-pub one_row : (r : Result Out AllocError) (slots : ℕ) (words words' : List ℕ) (parties parties' : List Party) (i : ℕ) (act a : Act) → act ≡ a → IfOk r (λ out. (s first : ℕ) → Row (machine_of s first words parties) i a out (machine_of s first words' parties'))
-    → IfOk r (λ out. (first : ℕ) → Row (machine_of slots first words parties) i act out (machine_of slots first words' parties'))
-one_row (Ok out) slots words words' parties parties' i act a is row = λ first. subst (λ b. Row (machine_of slots first words parties) i b out (machine_of slots first words' parties')) (sym is) (row slots first)
-one_row (Err failed) slots words words' parties parties' i act a is row = tt
+-- the row of an act that is known, and leaves the parts
+pub one_row : (r : Result Out AllocError) (slots : ℕ) (words words' : List ℕ) (parties parties' : List Party) (parts : Parts) (i : ℕ) (act a : Act) → act ≡ a → IfOk r (λ out. (s first : ℕ) (ps : Parts) → Row (machine_of s first words parties ps) i a out (machine_of s first words' parties' ps))
+    → IfOk r (λ out. (first : ℕ) → Row (machine_of slots first words parties parts) i act out (machine_of slots first words' parties' parts))
+one_row (Ok out) slots words words' parties parties' parts i act a is row = λ first. subst (λ b. Row (machine_of slots first words parties parts) i b out (machine_of slots first words' parties' parts)) (sym is) (row slots first parts)
+one_row (Err failed) slots words words' parties parties' parts i act a is row = tt
 
--- and of one that leaves the words
-pub one_row_parties : (r : Result Out AllocError) (slots : ℕ) (words : List ℕ) (parties parties' : List Party) (i : ℕ) (act a : Act) → act ≡ a → IfOk r (λ out. (s first : ℕ) (ws : List ℕ) → Row (machine_of s first ws parties) i a out (machine_of s first ws parties'))
-    → IfOk r (λ out. (first : ℕ) → Row (machine_of slots first words parties) i act out (machine_of slots first words parties'))
-one_row_parties (Ok out) slots words parties parties' i act a is row = λ first. subst (λ b. Row (machine_of slots first words parties) i b out (machine_of slots first words parties')) (sym is) (row slots first words)
-one_row_parties (Err failed) slots words parties parties' i act a is row = tt
+-- of one that goes by the number of slots
+pub slot_row : (r : Result Out AllocError) (slots : ℕ) (words words' : List ℕ) (parties parties' : List Party) (parts : Parts) (i : ℕ) (act a : Act) → act ≡ a → IfOk r (λ out. (first : ℕ) (ps : Parts) → Row (machine_of slots first words parties ps) i a out (machine_of slots first words' parties' ps))
+    → IfOk r (λ out. (first : ℕ) → Row (machine_of slots first words parties parts) i act out (machine_of slots first words' parties' parts))
+slot_row (Ok out) slots words words' parties parties' parts i act a is row = λ first. subst (λ b. Row (machine_of slots first words parties parts) i b out (machine_of slots first words' parties' parts)) (sym is) (row first parts)
+slot_row (Err failed) slots words words' parties parties' parts i act a is row = tt
+
+-- of one that leaves the words and the parts
+pub one_row_parties : (r : Result Out AllocError) (slots : ℕ) (words : List ℕ) (parties parties' : List Party) (parts : Parts) (i : ℕ) (act a : Act) → act ≡ a → IfOk r (λ out. (s first : ℕ) (ws : List ℕ) (ps : Parts) → Row (machine_of s first ws parties ps) i a out (machine_of s first ws parties' ps))
+    → IfOk r (λ out. (first : ℕ) → Row (machine_of slots first words parties parts) i act out (machine_of slots first words parties' parts))
+one_row_parties (Ok out) slots words parties parties' parts i act a is row = λ first. subst (λ b. Row (machine_of slots first words parties parts) i b out (machine_of slots first words parties' parts)) (sym is) (row slots first words parts)
+one_row_parties (Err failed) slots words parties parties' parts i act a is row = tt
+
+-- of one that leaves the words alone
+pub one_row_parts : (r : Result Out AllocError) (slots : ℕ) (words : List ℕ) (parties parties' : List Party) (parts parts' : Parts) (i : ℕ) (act a : Act) → act ≡ a → IfOk r (λ out. (s first : ℕ) (ws : List ℕ) → Row (machine_of s first ws parties parts) i a out (machine_of s first ws parties' parts'))
+    → IfOk r (λ out. (first : ℕ) → Row (machine_of slots first words parties parts) i act out (machine_of slots first words parties' parts'))
+one_row_parts (Ok out) slots words parties parties' parts parts' i act a is row = λ first. subst (λ b. Row (machine_of slots first words parties parts) i b out (machine_of slots first words parties' parts')) (sym is) (row slots first words)
+one_row_parts (Err failed) slots words parties parties' parts parts' i act a is row = tt
+
+-- of one that leaves the parts as they were given
+pub one_row_turn : (r : Result Out AllocError) (slots : ℕ) (words words' : List ℕ) (parties parties' : List Party) (parts : Parts) (i : ℕ) (act a : Act) → act ≡ a → IfOk r (λ out. (s first : ℕ) → Row (machine_of s first words parties parts) i a out (machine_of s first words' parties' parts))
+    → IfOk r (λ out. (first : ℕ) → Row (machine_of slots first words parties parts) i act out (machine_of slots first words' parties' parts))
+one_row_turn (Ok out) slots words words' parties parties' parts i act a is row = λ first. subst (λ b. Row (machine_of slots first words parties parts) i b out (machine_of slots first words' parties' parts)) (sym is) (row slots first)
+one_row_turn (Err failed) slots words words' parties parties' parts i act a is row = tt
 
 -- a machine stands after a step, done or not
-pub stands_after : (slots first : ℕ) (words words' : List ℕ) (parties parties' : List Party) (i : ℕ) (act : Act) (r : Result Out AllocError) → Stands (machine_of slots first words parties) → IfOk r (λ out. (f : ℕ) → Row (machine_of slots f words parties) i act out (machine_of slots f words' parties'))
-    → OnErr r (words' ≡ words) → OnErr r (parties' ≡ parties) → Stands (machine_of slots first words' parties')
-stands_after slots first words words' parties parties' i act (Ok out) stands row same_words same_parties =
-    let m = machine_of slots first words parties in
-    let now = machine_of slots first words' parties' in
+pub stands_after : (slots first : ℕ) (words words' : List ℕ) (parties parties' : List Party) (parts parts' : Parts) (i : ℕ) (act : Act) (r : Result Out AllocError) → Stands (machine_of slots first words parties parts)
+    → IfOk r (λ out. (f : ℕ) → Row (machine_of slots f words parties parts) i act out (machine_of slots f words' parties' parts')) → OnErr r (words' ≡ words) → OnErr r (parties' ≡ parties) → OnErr r (parts' ≡ parts) → Stands (machine_of slots first words' parties' parts')
+stands_after slots first words words' parties parties' parts parts' i act (Ok out) stands row same_words same_parties same_parts =
+    let m = machine_of slots first words parties parts in
+    let now = machine_of slots first words' parties' parts' in
     stands_on m now (stands.log ++ claims act out) refl stands (row_keeps m i act out now stands.log (row first) stands.tied)
-stands_after slots first words words' parties parties' i act (Err failed) stands row same_words same_parties =
-    subst (λ ws. Stands (machine_of slots first ws parties')) (sym same_words) (subst (λ ps. Stands (machine_of slots first words ps)) (sym same_parties) stands)
+stands_after slots first words words' parties parties' parts parts' i act (Err failed) stands row same_words same_parties same_parts =
+    subst (λ ws. Stands (machine_of slots first ws parties' parts')) (sym same_words)
+    (subst (λ ps. Stands (machine_of slots first words ps parts')) (sym same_parties) (subst (λ hs. Stands (machine_of slots first words parties hs)) (sym same_parts) stands))
 
 -- and what it was tied to, it still is, followed by what was claimed
-pub tied_after : (slots first : ℕ) (words words' : List ℕ) (parties parties' : List Party) (i : ℕ) (act : Act) (r : Result Out AllocError) → IfOk r (λ out. (f : ℕ) → Row (machine_of slots f words parties) i act out (machine_of slots f words' parties'))
-    → IfOk r (λ out. (log : List Edge) → IsTied (machine_of slots first words parties) log → IsTied (machine_of slots first words' parties') (log ++ claims act out))
-tied_after slots first words words' parties parties' i act (Ok out) row = λ log tied. row_keeps (machine_of slots first words parties) i act out (machine_of slots first words' parties') log (row first) tied
-tied_after slots first words words' parties parties' i act (Err failed) row = tt
+pub tied_after : (slots first : ℕ) (words words' : List ℕ) (parties parties' : List Party) (parts parts' : Parts) (i : ℕ) (act : Act) (r : Result Out AllocError) → IfOk r (λ out. (f : ℕ) → Row (machine_of slots f words parties parts) i act out (machine_of slots f words' parties' parts'))
+    → IfOk r (λ out. (log : List Edge) → IsTied (machine_of slots first words parties parts) log → IsTied (machine_of slots first words' parties' parts') (log ++ claims act out))
+tied_after slots first words words' parties parties' parts parts' i act (Ok out) row = λ log tied. row_keeps (machine_of slots first words parties parts) i act out (machine_of slots first words' parties' parts') log (row first) tied
+tied_after slots first words words' parties parties' parts parts' i act (Err failed) row = tt

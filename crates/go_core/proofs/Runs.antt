@@ -1,25 +1,28 @@
 -- What holds of each row holds over a whole run.
-use Rattle.std.proofs.Common.{◌≡◌, ℕ, zero, suc, ◌+◌, ◌<◌, ◌≤◌, ◌≢◌, true, List, [], ◌∷◌, ◌++◌, length, get_or, set, take, drop, Option, Some, None, sym, refl, ap, ◌∙◌, ⊎_elim, arith, subst, append-nil, append_assoc, take-append-drop}
-use Rattle.std.specs.Prelude.{find}
+use Rattle.std.proofs.Common.{◌≡◌, ℕ, zero, suc, ◌+◌, ◌<◌, ◌≤◌, ◌≢◌, Bool, true, false, cond, List, [], ◌∷◌, ◌++◌, length, get_or, set, take, drop, Option, Some, None, sym, refl, ap, ◌∙◌, ⊎_elim, arith, subst, append-nil, append_assoc, take-append-drop}
+use Rattle.std.specs.Prelude.{find, ◌==◌}
 use Rattle.std.proofs.lemmas.List.{length_push, length-append, length-take-le, drop_more, drop_at, take_at}
 use mathlib.Core.Option.{some, some-injective, some-ne-none}
 use lib.ListN.{get_elem?}
 use Rattle.go_word.specs.declared.edge.Edge.{Edge}
 use Rattle.go_word.specs.Word.{is_matched, decode}
 use Rattle.go_core.specs.declared.act.Act.{Act}
-use Rattle.go_core.specs.declared.act.Act.TheVariants.{Claim, LoadHead, LoadArchived, StoreWord, LoadOrdered, StoreArchived, Split, Join}
+use Rattle.go_core.specs.declared.act.Act.TheVariants.{Claim, LoadHead, LoadArchived, LoadDurable, StoreWord, LoadOrdered, LoadTentative, StoreArchived, StoreDurable, TakeTurn, PartOut, PartIn, GiveTurn, LoadFlag, StoreFlag, Split, Join}
 use Rattle.go_core.specs.declared.act.Event.{Event}
 use Rattle.go_core.specs.declared.act.Out.{Out}
 use Rattle.go_core.specs.declared.act.Out.TheVariants.{Word, Refused}
 use Rattle.go_core.specs.declared.entry.Entry.{Entry}
 use Rattle.go_core.specs.Frame.{place, slot, head_in, archived_in, durable_in, released}
-use Rattle.go_core.specs.View.{stands_at}
+use Rattle.go_core.specs.View.{stands_at, unmoved}
+use Rattle.go_core.specs.Turns.{turn_place, having_turn}
 use Rattle.go_core.specs.Acts.{CanTake}
-use Rattle.go_core.specs.Machine.{Machine, IsTied, views_of, party_at, Does, Stores, Row, claims, Run, all_claims, IsRead}
+use Rattle.go_core.specs.Machine.{Machine, IsTied, views_of, turn_in, party_at, with_word, with_stake, with_view, Does, Stores, Row, claims}
+use Rattle.go_core.specs.History.{Run, all_claims, IsRead}
 use Rattle.go_core.proofs.Lookups.{lookup-longer}
 use Rattle.go_core.proofs.Loads.{matched_is, matched-decode}
 use Rattle.go_core.proofs.Claims.{word_here, word_other}
-use Rattle.go_core.proofs.Rows.{party_there, row_keeps}
+use Rattle.go_core.proofs.Parted.{party_there}
+use Rattle.go_core.proofs.Rows.{row_keeps}
 
 -- what holds of the machine before and of the one after a done act holds after the act
 either_way : (P : Machine → Type 0) (condition : Type 0) (answer : Out) (after before : Machine) (out : Out) (now : Machine) → P before → (condition → P after) → Does condition answer after before out now → P now
@@ -30,14 +33,28 @@ stores_either : (P : Machine → Type 0) (m : Machine) (i at : ℕ) (o : Option 
 stores_either P m i at None out now same done row = subst P (sym row.1) same
 stores_either P m i at (Some x) out now same done row = either_way P _ _ _ m out now same (λ can. done 0 _ _ refl refl) row
 
+-- a turn that is asked for
+turn_frame : (m : Machine) (i : ℕ) (b free : Bool) → (cond free (with_word (turn_place b) 1 (with_stake i (having_turn b (party_at m i).stake) m)) (with_view i (unmoved (party_at m i).view) m)).frame ≡ m.frame
+turn_frame m i b true = refl
+turn_frame m i b false = refl
+
 -- the frame stays
 pub row_frame : (m : Machine) (i : ℕ) (act : Act) (out : Out) (now : Machine) → Row m i act out now → now.frame ≡ m.frame
 row_frame m i (Claim edges) out now row = either_way (λ n. n.frame ≡ m.frame) _ _ _ m out now refl (λ can. refl) row
 row_frame m i LoadHead out now row = either_way (λ n. n.frame ≡ m.frame) _ _ _ m out now refl (λ can. refl) row
 row_frame m i LoadArchived out now row = either_way (λ n. n.frame ≡ m.frame) _ _ _ m out now refl (λ can. refl) row
+row_frame m i LoadDurable out now row = either_way (λ n. n.frame ≡ m.frame) _ _ _ m out now refl (λ can. refl) row
 row_frame m i (StoreWord at) out now row = stores_either (λ n. n.frame ≡ m.frame) m i at (find (stands_at at) (party_at m i).view.pending) out now refl (λ k n after words frame. frame) row
 row_frame m i (LoadOrdered at) out now row = either_way (λ n. n.frame ≡ m.frame) _ _ _ m out now refl (λ can. refl) row
+row_frame m i (LoadTentative at) out now row = either_way (λ n. n.frame ≡ m.frame) _ _ _ m out now refl (λ can. refl) row
 row_frame m i (StoreArchived front) out now row = either_way (λ n. n.frame ≡ m.frame) _ _ _ m out now refl (λ can. refl) row
+row_frame m i (StoreDurable front) out now row = either_way (λ n. n.frame ≡ m.frame) _ _ _ m out now refl (λ can. refl) row
+row_frame m i (TakeTurn part) out now row = either_way (λ n. n.frame ≡ m.frame) _ _ _ m out now refl (λ can. turn_frame m i (part == 0) (turn_in (part == 0) m.words == 0)) row
+row_frame m i (PartOut part) out now row = either_way (λ n. n.frame ≡ m.frame) _ _ _ m out now refl (λ can. refl) row
+row_frame m i (PartIn part state) out now row = either_way (λ n. n.frame ≡ m.frame) _ _ _ m out now refl (λ can. refl) row
+row_frame m i (GiveTurn part) out now row = either_way (λ n. n.frame ≡ m.frame) _ _ _ m out now refl (λ can. refl) row
+row_frame m i LoadFlag out now row = either_way (λ n. n.frame ≡ m.frame) _ _ _ m out now refl (λ can. refl) row
+row_frame m i (StoreFlag why) out now row = either_way (λ n. n.frame ≡ m.frame) _ _ _ m out now refl (λ can. refl) row
 row_frame m i Split out now row = either_way (λ n. n.frame ≡ m.frame) _ _ _ m out now refl (λ can. refl) row
 row_frame m i (Join j) out now row = either_way (λ n. n.frame ≡ m.frame) _ _ _ m out now refl (λ can. refl) row
 
@@ -48,6 +65,15 @@ past_fronts words k n one two =
     let durable : durable_in (set words k n) ≡ durable_in words = word_other words k 2 n two in
     omega arith
 
+-- nor does a turn word touch them
+past_turn : (words : List ℕ) (b : Bool) (n : ℕ) → released (set words (turn_place b) n) ≡ released words
+past_turn words true n = past_fronts words 4 n (λ e. omega arith) (λ e. omega arith)
+past_turn words false n = past_fronts words 5 n (λ e. omega arith) (λ e. omega arith)
+
+turn_released : (m : Machine) (i : ℕ) (b free : Bool) → released m.words ≤ released (cond free (with_word (turn_place b) 1 (with_stake i (having_turn b (party_at m i).stake) m)) (with_view i (unmoved (party_at m i).view) m)).words
+turn_released m i b true = let same = past_turn m.words b 1 in omega arith
+turn_released m i b false = omega arith
+
 -- released never falls
 pub row_released : (m : Machine) (i : ℕ) (act : Act) (out : Out) (now : Machine) (log : List Edge) → Row m i act out now → IsTied m log → released m.words ≤ released now.words
 row_released m i (Claim edges) out now log row tied =
@@ -55,6 +81,7 @@ row_released m i (Claim edges) out now log row tied =
     (λ can. let same = past_fronts m.words 0 (head_in m.words + length edges) (λ e. omega arith) (λ e. omega arith) in omega arith) row
 row_released m i LoadHead out now log row tied = either_way (λ n. released m.words ≤ released n.words) _ _ _ m out now (omega arith) (λ can. omega arith) row
 row_released m i LoadArchived out now log row tied = either_way (λ n. released m.words ≤ released n.words) _ _ _ m out now (omega arith) (λ can. omega arith) row
+row_released m i LoadDurable out now log row tied = either_way (λ n. released m.words ≤ released n.words) _ _ _ m out now (omega arith) (λ can. omega arith) row
 row_released m i (StoreWord at) out now log row tied =
     let base = tied.tied.ringed.four_words in
     stores_either (λ n. released m.words ≤ released n.words) m i at (find (stands_at at) (party_at m i).view.pending) out now (omega arith)
@@ -63,6 +90,7 @@ row_released m i (StoreWord at) out now log row tied =
     let is : released after.words ≡ released (set m.words (place m.frame at) n) = ap released words in
     omega arith)) row
 row_released m i (LoadOrdered at) out now log row tied = either_way (λ n. released m.words ≤ released n.words) _ _ _ m out now (omega arith) (λ can. omega arith) row
+row_released m i (LoadTentative at) out now log row tied = either_way (λ n. released m.words ≤ released n.words) _ _ _ m out now (omega arith) (λ can. omega arith) row
 row_released m i (StoreArchived front) out now log row tied =
     let r = tied.tied.ringed in
     let base = r.four_words in
@@ -73,6 +101,25 @@ row_released m i (StoreArchived front) out now log row tied =
     let archived : archived_in (set m.words 1 front) ≡ front = word_here m.words 1 front (omega arith) in
     let durable : durable_in (set m.words 1 front) ≡ durable_in m.words = word_other m.words 1 2 front (λ e. omega arith) in
     omega arith)) row
+row_released m i (StoreDurable front) out now log row tied =
+    let r = tied.tied.ringed in
+    let base = r.four_words in
+    let all = r.all_words in
+    either_way (λ n. released m.words ≤ released n.words) _ _ _ m out now (omega arith)
+    (λ can.
+    (let onward = can.1.onward in
+    let durable : durable_in (set m.words 2 front) ≡ front = word_here m.words 2 front (omega arith) in
+    let archived : archived_in (set m.words 2 front) ≡ archived_in m.words = word_other m.words 2 1 front (λ e. omega arith) in
+    omega arith)) row
+row_released m i (TakeTurn part) out now log row tied =
+    either_way (λ n. released m.words ≤ released n.words) _ _ _ m out now (omega arith) (λ can. turn_released m i (part == 0) (turn_in (part == 0) m.words == 0)) row
+row_released m i (PartOut part) out now log row tied = either_way (λ n. released m.words ≤ released n.words) _ _ _ m out now (omega arith) (λ can. omega arith) row
+row_released m i (PartIn part state) out now log row tied = either_way (λ n. released m.words ≤ released n.words) _ _ _ m out now (omega arith) (λ can. omega arith) row
+row_released m i (GiveTurn part) out now log row tied =
+    either_way (λ n. released m.words ≤ released n.words) _ _ _ m out now (omega arith) (λ can. let same = past_turn m.words (part == 0) 0 in omega arith) row
+row_released m i LoadFlag out now log row tied = either_way (λ n. released m.words ≤ released n.words) _ _ _ m out now (omega arith) (λ can. omega arith) row
+row_released m i (StoreFlag why) out now log row tied =
+    either_way (λ n. released m.words ≤ released n.words) _ _ _ m out now (omega arith) (λ can. let same = past_fronts m.words 3 why (λ e. omega arith) (λ e. omega arith) in omega arith) row
 row_released m i Split out now log row tied = either_way (λ n. released m.words ≤ released n.words) _ _ _ m out now (omega arith) (λ can. omega arith) row
 row_released m i (Join j) out now log row tied = either_way (λ n. released m.words ≤ released n.words) _ _ _ m out now (omega arith) (λ can. omega arith) row
 

@@ -1,22 +1,25 @@
 -- A worker takes the positions one by one: its taken length grows only over the word that it read there.
 use Rattle.std.proofs.Common.{◌≡◌, ℕ, suc, ◌+◌, ◌<◌, ◌≤◌, ◌≢◌, Bool, true, false, cond, List, [], ◌∷◌, length, get_or, set, Option, Some, None, sym, refl, ap, ◌∙◌, inl, inr, ⊎_elim, arith, subst}
-use Rattle.std.specs.Prelude.{find, max}
+use Rattle.std.specs.Prelude.{find, max, ◌==◌}
 use Rattle.std.proofs.lemmas.Bool.{cases_eq, cases_lt}
 use Rattle.std.proofs.lemmas.List.{get_or-set_same, get_or-set_other, set_past, get_or_past, get_or_append_left, length-set}
 use mathlib.Core.Option.{some}
 use Rattle.go_word.specs.Word.{is_matched}
 use Rattle.go_core.specs.declared.act.Act.{Act}
-use Rattle.go_core.specs.declared.act.Act.TheVariants.{Claim, LoadHead, LoadArchived, StoreWord, LoadOrdered, StoreArchived, Split, Join}
+use Rattle.go_core.specs.declared.act.Act.TheVariants.{Claim, LoadHead, LoadArchived, LoadDurable, StoreWord, LoadOrdered, LoadTentative, StoreArchived, StoreDurable, TakeTurn, PartOut, PartIn, GiveTurn, LoadFlag, StoreFlag, Split, Join}
 use Rattle.go_core.specs.declared.act.Event.{Event}
 use Rattle.go_core.specs.declared.act.Out.{Out}
-use Rattle.go_core.specs.declared.act.Out.TheVariants.{Word, Done}
+use Rattle.go_core.specs.declared.act.Out.TheVariants.{Number, Word, Done}
 use Rattle.go_core.specs.declared.entry.Entry.{Entry}
 use Rattle.go_core.specs.declared.view.View.{View}
 use Rattle.go_core.specs.declared.party.Party.{Party}
 use Rattle.go_core.specs.Frame.{slot}
 use Rattle.go_core.specs.View.{stands_at, took, unmoved}
+use Rattle.go_core.specs.Turns.{turn_place, having_turn}
 use Rattle.go_core.specs.Acts.{CanJoin}
-use Rattle.go_core.specs.Machine.{Machine, absent, party_at, with_view, Does, Stores, Row, Run, IsWorker, HasTaken}
+use Rattle.go_core.specs.Machine.{Machine, absent, party_at, turn_in, with_word, with_stake, with_view, Does, Stores, Row}
+use Rattle.go_core.specs.History.{Run, IsWorker, HasTaken}
+use Rattle.go_core.proofs.Parted.{live_within}
 use Rattle.go_core.proofs.Runs.{row_frame}
 
 -- two views with one role that have taken as much
@@ -100,14 +103,6 @@ reads_worked m j at i worker next within true matched =
     (cases_eq i j)
 reads_worked m j at i worker next within false unmatched = same_worked m _ j (LoadOrdered at) _ i worker (set_work m.parties j i _ (record { archives = refl; flushes = refl; taken = refl }))
 
--- a live party is in the list
-live_within : (m : Machine) (j : ℕ) → (party_at m j).view.live ≡ true → j < length m.parties
-live_within m j live =
-    ⊎_elim (λ less. less) (λ (past : length m.parties ≤ j). absurd (apart (sym live ∙ ap (λ (p : Party). p.view.live) (get_or_past m.parties j absent past)))) (cases_lt j (length m.parties))
-  where
-    apart : true ≡ false → ⊥
-    apart e = cc
-
 -- a worker is in the list
 worker_within : (m : Machine) (i : ℕ) → IsWorker (party_at m i).view → i < length m.parties
 worker_within m i worker =
@@ -120,22 +115,36 @@ worker_within m i worker =
     apart e = cc
 
 -- a party that is joined in is no worker
-joined_other : (m : Machine) (i j : ℕ) → IsWorker (party_at m i).view → CanJoin (party_at m j).view → i ≢ j
+joined_other : (m : Machine) (i j : ℕ) → IsWorker (party_at m i).view → CanJoin (party_at m j).view (party_at m j).stake → i ≢ j
 joined_other m i j worker can same =
     ⊎_elim (λ role. apart (sym role ∙ ap (λ k. (party_at m k).view.archives) same ∙ can.archives)) (λ role. apart (sym role ∙ ap (λ k. (party_at m k).view.flushes) same ∙ can.flushes)) worker
   where
     apart : true ≡ false → ⊥
     apart e = cc
 
+-- a turn that is asked for
+turn_worked : (m : Machine) (j : ℕ) (b : Bool) (act : Act) (i : ℕ) → IsWorker (party_at m i).view → (free : Bool) → Worked m (cond free (with_word (turn_place b) 1 (with_stake j (having_turn b (party_at m j).stake) m)) (with_view j (unmoved (party_at m j).view) m)) j act (Number (turn_in b m.words)) i
+turn_worked m j b act i worker true = same_worked m _ j act _ i worker (set_work m.parties j i _ (record { archives = refl; flushes = refl; taken = refl }))
+turn_worked m j b act i worker false = same_worked m _ j act _ i worker (set_work m.parties j i _ (record { archives = refl; flushes = refl; taken = refl }))
+
 -- every row
 row_worked : (m : Machine) (j : ℕ) (act : Act) (out : Out) (now : Machine) (i : ℕ) → Row m j act out now → IsWorker (party_at m i).view → Worked m now j act out i
 row_worked m j (Claim edges) out now i row worker = worked_done _ _ _ m out now j _ i worker (λ can. same_worked m _ j _ _ i worker (set_work m.parties j i _ (record { archives = refl; flushes = refl; taken = refl }))) row
 row_worked m j LoadHead out now i row worker = worked_done _ _ _ m out now j _ i worker (λ can. same_worked m _ j _ _ i worker (set_work m.parties j i _ (record { archives = refl; flushes = refl; taken = refl }))) row
 row_worked m j LoadArchived out now i row worker = worked_done _ _ _ m out now j _ i worker (λ can. same_worked m _ j _ _ i worker (set_work m.parties j i _ (record { archives = refl; flushes = refl; taken = refl }))) row
+row_worked m j LoadDurable out now i row worker = worked_done _ _ _ m out now j _ i worker (λ can. same_worked m _ j _ _ i worker (set_work m.parties j i _ (record { archives = refl; flushes = refl; taken = refl }))) row
 row_worked m j (StoreWord at) out now i row worker = stores_worked m j at (find (stands_at at) (party_at m j).view.pending) out now (StoreWord at) i worker row
 row_worked m j (LoadOrdered at) out now i row worker =
     worked_done _ _ _ m out now j _ i worker (λ can. reads_worked m j at i worker can.1.next (live_within m j can.0) (is_matched m.frame.slots at (slot m.frame m.words at)) refl) row
+row_worked m j (LoadTentative at) out now i row worker = worked_done _ _ _ m out now j _ i worker (λ can. same_worked m _ j _ _ i worker (set_work m.parties j i _ (record { archives = refl; flushes = refl; taken = refl }))) row
 row_worked m j (StoreArchived front) out now i row worker = worked_done _ _ _ m out now j _ i worker (λ can. same_worked m _ j _ _ i worker (set_work m.parties j i _ (record { archives = refl; flushes = refl; taken = refl }))) row
+row_worked m j (StoreDurable front) out now i row worker = worked_done _ _ _ m out now j _ i worker (λ can. same_worked m _ j _ _ i worker (set_work m.parties j i _ (record { archives = refl; flushes = refl; taken = refl }))) row
+row_worked m j (TakeTurn part) out now i row worker = worked_done _ _ _ m out now j _ i worker (λ can. turn_worked m j (part == 0) (TakeTurn part) i worker (turn_in (part == 0) m.words == 0)) row
+row_worked m j (PartOut part) out now i row worker = worked_done _ _ _ m out now j _ i worker (λ can. same_worked m _ j _ _ i worker (set_work m.parties j i _ (record { archives = refl; flushes = refl; taken = refl }))) row
+row_worked m j (PartIn part state) out now i row worker = worked_done _ _ _ m out now j _ i worker (λ can. same_worked m _ j _ _ i worker (set_work m.parties j i _ (record { archives = refl; flushes = refl; taken = refl }))) row
+row_worked m j (GiveTurn part) out now i row worker = worked_done _ _ _ m out now j _ i worker (λ can. same_worked m _ j _ _ i worker (set_work m.parties j i _ (record { archives = refl; flushes = refl; taken = refl }))) row
+row_worked m j LoadFlag out now i row worker = worked_done _ _ _ m out now j _ i worker (λ can. same_worked m _ j _ _ i worker (set_work m.parties j i _ (record { archives = refl; flushes = refl; taken = refl }))) row
+row_worked m j (StoreFlag why) out now i row worker = worked_done _ _ _ m out now j _ i worker (λ can. same_worked m _ j _ _ i worker (set_work m.parties j i _ (record { archives = refl; flushes = refl; taken = refl }))) row
 row_worked m j Split out now i row worker =
     worked_done _ _ _ m out now j _ i worker
     (λ can.

@@ -1,10 +1,14 @@
 -- When a party may do an act: the conditions on the words, its view and its stake.
-use Rattle.std.specs.Prelude.{◌≡◌, ◌⊎◌, ℕ, ◌+◌, ◌^◌, ◌<◌, ◌≤◌, true, false, min, List, [], length, All}
+use Rattle.std.specs.Prelude.{◌≡◌, ◌⊎◌, ℕ, ◌+◌, ◌^◌, ◌<◌, ◌≤◌, ◌==◌, ◌&&◌, Bool, true, false, min, List, [], length, All}
 use Rattle.go_word.specs.declared.edge.Edge.{Edge}
 use Rattle.go_word.specs.Word.{IsStorable}
 use Rattle.go_core.specs.declared.view.View.{View}
-use Rattle.go_core.specs.declared.party.Stake.{Stake}
+use Rattle.go_core.specs.declared.part.PartState.{PartState}
+use Rattle.go_core.specs.declared.home.Parts.{Parts}
+use Rattle.go_core.specs.declared.stake.Stake.{Stake}
 use Rattle.go_core.specs.Frame.{Frame, head_in, archived_in, durable_in}
+use Rattle.go_core.specs.Parts.{IsSuccessor, IsFileSuccessor}
+use Rattle.go_core.specs.Turns.{hold_of, home_of, owns_name}
 
 -- edges may be claimed: one to 64 that words can hold, with room for them in the log
 pub record CanClaim (words : List ℕ) (edges : List Edge) : Type 0 where
@@ -27,28 +31,53 @@ pub record CanArchive (words : List ℕ) (v : View) (stake : Stake) (front : ℕ
   pub role : v.archives ≡ true
   pub onward : archived_in words ≤ front
   pub taken : front ≤ v.taken
-  pub stood : front ≤ stake.shard
+  pub stood : front ≤ stake.shard.front
 
 -- the durable front may be moved: by its worker, over what that took and what the file is known to have
 pub record CanFlush (words : List ℕ) (v : View) (stake : Stake) (front : ℕ) : Type 0 where
   pub role : v.flushes ≡ true
   pub onward : durable_in words ≤ front
   pub taken : front ≤ v.taken
-  pub stood : front ≤ stake.file
+  pub stood : front ≤ stake.file.front
 
 -- a word may be read ahead of its turn: within the window that the party knows, and below the length that it knows
-pub record CanReadAhead (f : Frame) (v : View) (at : ℕ) : Type 0 where
+pub record CanReadAhead (slots : ℕ) (v : View) (at : ℕ) : Type 0 where
   pub from : min v.archived v.durable ≤ at
-  pub to : at < min v.archived v.durable + f.slots
+  pub to : at < min v.archived v.durable + slots
   pub within : at < v.head
+
+-- the turn of a part may be asked for: there are two parts, and the party has not taken this one out
+pub record CanTakeTurn (parts : Parts) (stake : Stake) (part : ℕ) : Type 0 where
+  pub one : part < 2
+  pub not_held : ((hold_of (part == 0) stake).turn && (home_of (part == 0) parts).out) ≡ false
+
+-- the party has the turn of a part that is at home: it may take it out, or give the turn back
+pub record HasAtHome (parts : Parts) (stake : Stake) (part : ℕ) : Type 0 where
+  pub one : part < 2
+  pub turn : (hold_of (part == 0) stake).turn ≡ true
+  pub at_home : (home_of (part == 0) parts).out ≡ false
+
+-- a part may be given back as another
+abbrev pub IsLawful : Bool → View → Stake → PartState → PartState → Type 0
+IsLawful true v stake old new = IsSuccessor v.taken v.archived (λ id. owns_name id stake) old new
+IsLawful false v stake old new = IsFileSuccessor v.taken old new
+
+-- a part may be put in: by the party that took it out
+pub record CanPutIn (parts : Parts) (v : View) (stake : Stake) (part : ℕ) (state : PartState) : Type 0 where
+  pub one : part < 2
+  pub turn : (hold_of (part == 0) stake).turn ≡ true
+  pub out : (home_of (part == 0) parts).out ≡ true
+  pub lawful : IsLawful (part == 0) v stake (home_of (part == 0) parts).part state
 
 -- why the flag may be raised: 1 is the disk, 2 is want of memory
 abbrev pub IsCause : ℕ → Type 0
 IsCause why = (why ≡ 1) ⊎ (why ≡ 2)
 
--- another party may be joined in: a live session that owes no word
-pub record CanJoin (other : View) : Type 0 where
+-- another party may be joined in: a live session that owes no word and has no turn
+pub record CanJoin (other : View) (stake : Stake) : Type 0 where
   pub live : other.live ≡ true
   pub archives : other.archives ≡ false
   pub flushes : other.flushes ≡ false
   pub pending : other.pending ≡ []
+  pub no_shard : stake.shard.turn ≡ false
+  pub no_file : stake.file.turn ≡ false

@@ -5,6 +5,8 @@ use Rattle.go_core.specs.declared.act.Role.{Role}
 use Rattle.go_core.specs.declared.act.Role.TheVariants.{Session, Archiver, Flusher}
 use Rattle.go_core.specs.declared.view.View.{View}
 use Rattle.go_core.specs.declared.party.Party.{Party}
+use Rattle.go_core.specs.declared.home.Home.{Home}
+use Rattle.go_core.specs.declared.home.Parts.{Parts}
 use Rattle.go_core.specs.Frame.{Frame, slot, head_in, archived_in, durable_in, flag_in}
 
 -- the words at the beginning: the log and both fronts end at the first position, no flag is raised, no turn is taken, and each slot waits for the position that it serves
@@ -55,5 +57,13 @@ flushes_as Flusher = true
 abbrev pub opening_party : ℕ → Role → Party
 opening_party first role = record {
   view = opening_view first (archives_as role) (flushes_as role);
-  stake = record { pins = []; shard = first; file = first };
+  stake = record { pins = []; put = []; shard = record { front = first; turn = false }; file = record { front = first; turn = false } };
 }
+
+-- the home of a part at the beginning: it reaches to the first position
+abbrev pub opening_home : ℕ → Home
+opening_home first = record { part = record { front = first; cut = 0; pins = [] }; out = false }
+
+-- both parts at the beginning
+abbrev pub opening_parts : ℕ → Parts
+opening_parts first = record { shard = opening_home first; file = opening_home first }

@@ -1,10 +1,30 @@
--- The clauses on the parts: the shards and the file that hold what the workers took.
-use Rattle.std.specs.Prelude.{◌≡◌, ℕ, ◌+◌, ◌<◌, ◌≤◌, List, All, Some, slice_get}
+-- The clauses on the parts: the shards and the file that hold what the workers took, their turns and their pins.
+use Rattle.std.specs.Prelude.{◌≡◌, ◌⊎◌, ℕ, ◌+◌, ◌<◌, ◌≤◌, max, Bool, true, false, ◌||◌, List, [], ◌++◌, length, All, Contains, count_by, find, Option, Some, None, slice_get}
+use Rattle.std.proofs.Common.{arith, length-append}
 use Rattle.go_word.specs.declared.edge.Edge.{Edge}
-use Rattle.go_core.specs.declared.party.Pin.{Pin}
+use Rattle.go_core.specs.declared.pin.Pin.{Pin}
+use Rattle.go_core.specs.declared.part.PartState.{PartState}
 use Rattle.go_core.specs.declared.view.View.{View}
 use Rattle.go_core.specs.Frame.{Frame}
+use Rattle.go_core.specs.Pins.{is_named, has_name}
 use Rattle.go_core.specs.Rule.{IsWritten}
+
+-- the moment of a disk, and the count of its faults
+pub record Mark : Type 0 where
+  pub clock : ℕ
+  pub faults : ℕ
+
+-- what has no disk has no moment and no faults
+abbrev pub no_mark : Mark
+no_mark = record { clock = 0; faults = 0 }
+
+-- a part of which no more is known than its state reaches no further than the log
+abbrev pub Reaches : PartState → List Edge → Type 0
+Reaches s log = s.front ≤ length log
+
+-- and so no further than a longer one
+pub reaches_on : (s : PartState) (log more : List Edge) → Reaches s log → Reaches s (log ++ more)
+reaches_on s log more reaches = omega (arith, length-append log more)
 
 -- the place of the file: there is a turn for each part after the four shared words, and the file's is the last
 abbrev pub IsFilePlace : Frame → ℕ → Type 0
@@ -14,22 +34,76 @@ IsFilePlace f place = place + 5 ≡ f.base
 abbrev pub IsShardPlace : Frame → ℕ → Type 0
 IsShardPlace f place = place + 5 < f.base
 
--- by what a part means: its front, of a shard its cut and its pins, and that it stands for the log up to its front
-module _ {P : Type 0} (front_of cut_of : P → ℕ) (pins_of : P → List Pin) (StandsFor : P → List Edge → Type 0) where
+-- a shard is archived as far as the archived front says, its cut is no further than that and than each pin, and no pin is past that front
+pub record IsShardOf (archived : ℕ) (s : PartState) : Type 0 where
+  pub archived_to : archived ≤ s.front
+  pub cut_to : s.cut ≤ archived
+  pub cut_pins : All (λ pin. s.cut ≤ pin.front) s.pins
+  pub pins_to : All (λ pin. pin.front ≤ archived) s.pins
+
+-- by what a part means: its state, and that it stands for the log up to its front
+module _ {P : Type 0} (state_of : P → PartState) (StandsFor : P → List Edge → Type 0) where
   -- a part stands for the log up to its front, all of it written
   pub record IsPartOf (log : List Edge) (views : List View) (part : P) : Type 0 where
     pub stands : StandsFor part log
-    pub written : (p : ℕ) → p < front_of part → IsWritten log views p
-
-  -- a shard is archived as far as the archived front says, its cut is no further than that and than each pin, and no pin is past that front
-  pub record IsShardOf (archived : ℕ) (part : P) : Type 0 where
-    pub archived_to : archived ≤ front_of part
-    pub cut_to : cut_of part ≤ archived
-    pub cut_pins : All (λ pin. cut_of part ≤ pin.front) (pins_of part)
-    pub pins_to : All (λ pin. pin.front ≤ archived) (pins_of part)
+    pub written : (p : ℕ) → p < (state_of part).front → IsWritten log views p
 
   -- what the rule says of the parts, a list by place; a part that is out is spoken of as it was taken
   pub record ArePartsOf (f : Frame) (log : List Edge) (archived durable : ℕ) (views : List View) (parts : List P) : Type 0 where
     pub of_log : (place : ℕ) (part : P) → slice_get parts place ≡ Some part → IsPartOf log views part
-    pub shards : (place : ℕ) (part : P) → slice_get parts place ≡ Some part → IsShardPlace f place → IsShardOf archived part
-    pub file : (place : ℕ) (part : P) → slice_get parts place ≡ Some part → IsFilePlace f place → durable ≤ front_of part
+    pub shards : (place : ℕ) (part : P) → slice_get parts place ≡ Some part → IsShardPlace f place → IsShardOf archived (state_of part)
+    pub file : (place : ℕ) (part : P) → slice_get parts place ≡ Some part → IsFilePlace f place → durable ≤ (state_of part).front
+
+-- a pin of a shard that is given back, by the shard's cut, the archived front that the party knows, whether the name is the party's, and what stood under the name: a new one stands at the cut, the party's own may go upwards as far as that front, and another's stays
+abbrev pub Follows : ℕ → ℕ → Bool → Option Pin → Pin → Type 0
+Follows cut archived own None pin = pin.front ≡ cut
+Follows cut archived own (Some old) pin = (pin.front ≡ old.front) ⊎ ((own ≡ true) × (old.front ≤ pin.front) × (pin.front ≤ archived))
+
+-- a shard goes onward: its front at most to what the party took, its cut at most to the archived front that the party knows
+pub record GoesOnward (taken archived : ℕ) (old new : PartState) : Type 0 where
+  pub front_from : old.front ≤ new.front
+  pub front_to : new.front ≤ max old.front taken
+  pub cut_from : old.cut ≤ new.cut
+  pub cut_to : new.cut ≤ max old.cut archived
+
+-- its pins stand as they may: none below the cut, one of a name, those of other parties as they were
+pub record KeepsPins (archived : ℕ) (own : ℕ → Bool) (old new : PartState) : Type 0 where
+  pub cut_pins : All (λ pin. new.cut ≤ pin.front) new.pins
+  pub names : All (λ pin. count_by (is_named pin.id) new.pins ≡ 1) new.pins
+  pub others : All (λ pin. own pin.id ≡ false → find (is_named pin.id) new.pins ≡ Some pin) old.pins
+  pub pins : All (λ pin. Follows old.cut archived (own pin.id) (find (is_named pin.id) old.pins) pin) new.pins
+
+-- a shard may be given back as another, by a party that took so much, knows the archived front, and owns some names of pins
+pub record IsSuccessor (taken archived : ℕ) (own : ℕ → Bool) (old new : PartState) : Type 0 where
+  pub onward : GoesOnward taken archived old new
+  pub keeps : KeepsPins archived own old new
+
+-- the file may be given back as another, by a party that took so much
+pub record IsFileSuccessor (taken : ℕ) (old new : PartState) : Type 0 where
+  pub front_from : old.front ≤ new.front
+  pub front_to : new.front ≤ max old.front taken
+  pub cut : new.cut ≡ old.cut
+  pub pins : new.pins ≡ old.pins
+
+-- by what a party means: whether it has a turn
+module _ {S : Type 0} (has : S → Bool) where
+  -- a turn word counts the parties that have the turn: none, or one
+  pub record IsTurn (turn : ℕ) (parties : List S) : Type 0 where
+    pub counts : count_by has parties ≡ turn
+    pub one : turn ≤ 1
+
+-- by its pins, and those that it put in since it took the shard's turn
+module _ {S : Type 0} (pins put : S → List Pin) where
+  -- a name of a pin is the party's
+  abbrev pub owns : ℕ → S → Bool
+  owns id s = has_name id (pins s) || has_name id (put s)
+
+  -- a shard has each pin that a party holds, but of the one that has its turn
+  pub record IsPinnedBy (has : S → Bool) (held : List Pin) (s : S) : Type 0 where
+    pub pinned : has s ≡ false → All (Contains held) (pins s)
+    pub none_put : has s ≡ false → put s ≡ []
+
+  -- and no name is that of two parties
+  pub record ArePinned (has : S → Bool) (held : List Pin) (parties : List S) : Type 0 where
+    pub each : All (IsPinnedBy has held) parties
+    pub apart : (id : ℕ) → count_by (owns id) parties ≤ 1

@@ -1,5 +1,6 @@
 // What a party may do, and what it is answered.
 use crate::edges::EdgeSeq;
+use crate::part::PartState;
 
 /// What a party is there for. A party that is split off is a session.
 #[derive(Clone, Copy, Debug, PartialEq, Eq)]
@@ -21,12 +22,30 @@ pub enum Act {
     LoadHead,
     /// Reads the archived front.
     LoadArchived,
+    /// Reads the durable front.
+    LoadDurable,
     /// Writes the word of a pending entry into its slot.
     StoreWord { at: u64 },
     /// Reads a word in its turn, as a worker does.
     LoadOrdered { at: u64 },
+    /// Reads a word ahead of its turn, for a copy of what is newest.
+    LoadTentative { at: u64 },
     /// Moves the archived front.
     StoreArchived { front: u64 },
+    /// Moves the durable front.
+    StoreDurable { front: u64 },
+    /// Takes the turn of a part, 0 for the shard and 1 for the file, where nobody has it.
+    TakeTurn { part: u32 },
+    /// Takes a part out of its home, by its turn.
+    PartOut { part: u32 },
+    /// Puts a part into its home again, as it is now.
+    PartIn { part: u32, state: PartState },
+    /// Gives the turn of a part back.
+    GiveTurn { part: u32 },
+    /// Reads the flag.
+    LoadFlag,
+    /// Raises the flag: 1 is for the disk, 2 for want of memory.
+    StoreFlag { why: u64 },
     /// Splits off a new party.
     Split,
     /// Joins another party into this one.

@@ -21,16 +21,20 @@ ghost use Rattle.go_core.specs.View.{
   claimed,
   knowing_head,
   knowing_archived,
+  knowing_durable,
   stored,
   took as took_view,
+  read_ahead as read_ahead_view,
   archiving,
+  flushing,
+  raising,
   split_off as split_off_view,
   joining,
 };
 ghost use Rattle.go_core.specs.Opening.{opening_view, archives_as, flushes_as};
 
 use crate::act::Role;
-use crate::entry::Entry;
+use crate::entry::{Entry, Load};
 use crate::lists;
 use crate::view::View;
 use go_word::Edge;
@@ -134,6 +138,18 @@ impl View {
         Ok(())
     }
 
+    // A load of the durable front.
+    pub(crate) fn know_durable(&mut self, alloc: Global, front: u64) -> Result<(), AllocError>
+        ensures ok { OnOk result (self.new ≡ knowing_durable front self.old) }
+        ensures err { OnErr result (self.new ≡ self.old) }
+    {
+        self.loads = lists::assured(alloc, &self.loads, front)?;
+        self.durable = front;
+        self.seen = self.seen.max(front);
+        self.fresh = false;
+        Ok(())
+    }
+
     // A store of the word of a pending entry.
     pub(crate) fn store(&mut self, entry: Entry) -> Result<(), AllocError>
         ensures ok { OnOk result (self.new ≡ stored entry self.old) }
@@ -160,6 +176,38 @@ impl View {
         ensures { self.new ≡ archiving front self.old }
     {
         self.archived = front;
+        self.fresh = false;
+    }
+
+    // A word that was read ahead of its turn.
+    pub(crate) fn read_ahead(&mut self, at: u64, word: u64) -> Result<(), AllocError>
+        ensures ok { OnOk result (self.new ≡ read_ahead_view at word self.old) }
+        ensures err { OnErr result (self.new ≡ self.old) }
+    {
+        let load = Load {
+            at,
+            word,
+            sure: false,
+        };
+        self.loads.push_back(load)?;
+        self.fresh = false;
+        Ok(())
+    }
+
+    // A store of the durable front.
+    pub(crate) fn flush(&mut self, front: u64)
+        ensures { self.new ≡ flushing front self.old }
+    {
+        self.durable = front;
+        self.fresh = false;
+    }
+
+    // A store of the flag.
+    pub(crate) fn raise(&mut self, why: u64)
+        ensures { self.new ≡ raising why self.old }
+    {
+        self.disk_raised = self.disk_raised || why == 1;
+        self.memory_raised = self.memory_raised || why == 2;
         self.fresh = false;
     }
 

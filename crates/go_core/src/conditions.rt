@@ -1,10 +1,14 @@
 // Whether a party may do an act.
 ghost use Rattle.std.specs.Prelude.{◌≡◌, ◌↔◌, ◌<◌, ◌≤◌, IsTrue, length, All, slice_index_or, true};
 ghost use Rattle.go_word.specs.Word.{IsStorable};
-ghost use Rattle.go_core.specs.Acts.{CanClaim, CanTake, CanArchive, CanJoin};
+ghost use Rattle.go_core.specs.Acts.{CanClaim, CanTake, CanReadAhead, CanArchive, CanFlush, CanTakeTurn, HasAtHome, IsLawful, CanPutIn, IsCause, CanJoin};
 ghost use Rattle.go_core.specs.Machine.{absent};
 
-use crate::party::{Party, Stake};
+use crate::home::Parts;
+use crate::part::PartState;
+use crate::party::Party;
+use crate::stake::Stake;
+use crate::successor;
 use crate::view::View;
 use go_word::{Edge, ID_LIMIT};
 
@@ -69,12 +73,76 @@ pub(crate) fn can_archive(words: &[u64], view: &View, stake: &Stake, front: u64)
     requires { 4 ≤ length words.now }
     ensures { IsTrue result ↔ CanArchive words.now view.now stake.now front }
 {
-    view.archives && words[1] <= front && front <= view.taken && front <= stake.shard
+    view.archives && words[1] <= front && front <= view.taken && front <= stake.shard.front
+}
+
+// Whether the durable front may be moved.
+pub(crate) fn can_flush(words: &[u64], view: &View, stake: &Stake, front: u64) -> bool
+    requires { 4 ≤ length words.now }
+    ensures { IsTrue result ↔ CanFlush words.now view.now stake.now front }
+{
+    view.flushes && words[2] <= front && front <= view.taken && front <= stake.file.front
+}
+
+// Whether a party may read the word of a position ahead of its turn.
+pub(crate) fn can_read_ahead(slots: u64, view: &View, at: u64) -> bool
+    ensures { IsTrue result ↔ CanReadAhead slots view.now at }
+{
+    let front = view.archived.min(view.durable);
+    front <= at && at - front < slots && at < view.head
+}
+
+// Whether the turn of a part may be asked for.
+pub(crate) fn can_take_turn(parts: &Parts, stake: &Stake, part: u32) -> bool
+    ensures { IsTrue result ↔ CanTakeTurn parts.now stake.now part }
+{
+    let shard = part == 0;
+    part < 2 && !(stake.hold(shard).turn && parts.home(shard).out)
+}
+
+// Whether a party has the turn of a part that is at home.
+pub(crate) fn has_at_home(parts: &Parts, stake: &Stake, part: u32) -> bool
+    ensures { IsTrue result ↔ HasAtHome parts.now stake.now part }
+{
+    let shard = part == 0;
+    part < 2 && stake.hold(shard).turn && !parts.home(shard).out
+}
+
+// Whether a part may be given back as another.
+fn is_lawful(shard: bool, party: &Party, old: &PartState, new: &PartState) -> bool
+    ensures { IsTrue result ↔ IsLawful shard party.now.view party.now.stake old.now new.now }
+{
+    if shard {
+        successor::is_successor(&party.view, &party.stake, old, new)
+    } else {
+        successor::is_file_successor(&party.view, old, new)
+    }
+}
+
+// Whether a part may be put in.
+pub(crate) fn can_put_in(parts: &Parts, party: &Party, part: u32, state: &PartState) -> bool
+    ensures { IsTrue result ↔ CanPutIn parts.now party.now.view party.now.stake part state.now }
+{
+    let shard = part == 0;
+    let home = parts.home(shard);
+    part < 2
+        && party.stake.hold(shard).turn
+        && home.out
+        && is_lawful(shard, party, &home.part, state)
+}
+
+// Whether the flag may be raised for this.
+pub(crate) fn is_cause(why: u64) -> bool
+    ensures { IsTrue result ↔ IsCause why }
+{
+    why == 1 || why == 2
 }
 
 // Whether a party may be joined into another.
-pub(crate) fn can_join(other: &View) -> bool
-    ensures { IsTrue result ↔ CanJoin other.now }
+pub(crate) fn can_join(other: &Party) -> bool
+    ensures { IsTrue result ↔ CanJoin other.now.view other.now.stake }
 {
-    other.live && !other.archives && !other.flushes && other.pending.is_empty()
+    let view = &other.view;
+    let turns = other.stake.shard.turn || other.stake.file.turn;
+    view.live && !view.archives && !view.flushes && view.pending.is_empty() && !turns
 }

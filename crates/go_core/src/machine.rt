@@ -18,6 +18,7 @@ ghost use Rattle.std.specs.Prelude.{
 ghost use Rattle.go_word.specs.declared.edge.Edge.{Edge};
 
 use crate::act::{Event, Out, Role};
+use crate::home::Parts;
 use crate::party::Party;
 use crate::{opening, play};
 use std::alloc::{AllocError, Global};
@@ -31,6 +32,7 @@ pub struct Core {
     first: u64,
     words: Vec<u64>,
     parties: Vec<Party>,
+    parts: Parts,
 }
 
 impl Model for Core {
@@ -38,9 +40,9 @@ impl Model for Core {
 
     ghost Value = { Machine };
 
-    ghost view = { λ c. machine_of c.slots c.first c.words.items c.parties.items };
+    ghost view = { λ c. machine_of c.slots c.first c.words.items c.parties.items c.parts };
 
-    ghost invariant = { λ c. Stands (machine_of c.slots c.first c.words.items c.parties.items) };
+    ghost invariant = { λ c. Stands (machine_of c.slots c.first c.words.items c.parties.items c.parts) };
 }
 
 impl Core {
@@ -48,6 +50,7 @@ impl Core {
     ghost use Rattle.go_core.specs.Opening.{
       AreOpening,
       opening_party,
+      opening_parts,
       archives_as,
       flushes_as,
     };
@@ -62,6 +65,7 @@ impl Core {
         ensures frame { IfOk result (λ core. core.frame ≡ frame_of n first) }
         ensures words { IfOk result (λ core. AreOpening core.frame core.words) }
         ensures parties { IfOk result (λ core. core.parties ≡ map (opening_party first) roles.now) }
+        ensures parts { IfOk result (λ core. core.parts ≡ opening_parts first) }
         ensures tied { IfOk result (λ core. (log : List Edge) → length log ≡ first → IsTied core log) }
     {
         let words = opening::words(alloc, n, first)?;
@@ -72,6 +76,7 @@ impl Core {
             first,
             words,
             parties,
+            parts: Parts::opening(alloc, first),
         })
     }
 
@@ -87,6 +92,7 @@ impl Core {
             self.slots,
             &mut self.words,
             &mut self.parties,
+            &mut self.parts,
             event,
         )
     }

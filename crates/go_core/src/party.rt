@@ -3,29 +3,10 @@ ghost use Rattle.std.specs.Prelude.{◌≡◌, OnOk, OnErr};
 
 use crate::act::Role;
 use crate::changes;
+use crate::stake::{Hold, Stake};
 use crate::view::View;
 use std::alloc::{AllocError, Global};
 use std::collections::LinkedList;
-
-/// A front that a view of the graph holds on to.
-#[derive(Clone, Copy, Debug, PartialEq, Eq)]
-pub struct Pin {
-    /// The name of the pin; no two of a part have the same.
-    pub id: u64,
-    /// The front.
-    pub front: u64,
-}
-
-/// What a party knows of the parts, and which pins it holds.
-#[derive(Drop)]
-pub struct Stake {
-    /// The pins that it holds.
-    pub pins: LinkedList<Pin>,
-    /// The front at or above which it knows the shard to stand.
-    pub shard: u64,
-    /// The front at or above which it knows the file to stand.
-    pub file: u64,
-}
 
 /// A party of the machine.
 #[derive(Drop)]
@@ -49,8 +30,15 @@ impl Party {
             view: changes::opening(alloc, first, role),
             stake: Stake {
                 pins: LinkedList::new(alloc),
-                shard: first,
-                file: first,
+                put: LinkedList::new(alloc),
+                shard: Hold {
+                    front: first,
+                    turn: false,
+                },
+                file: Hold {
+                    front: first,
+                    turn: false,
+                },
             },
         }
     }
@@ -63,8 +51,15 @@ impl Party {
             view: changes::nothing(alloc),
             stake: Stake {
                 pins: LinkedList::new(alloc),
-                shard: 0,
-                file: 0,
+                put: LinkedList::new(alloc),
+                shard: Hold {
+                    front: 0,
+                    turn: false,
+                },
+                file: Hold {
+                    front: 0,
+                    turn: false,
+                },
             },
         }
     }
@@ -77,8 +72,15 @@ impl Party {
             view: self.view.split_off(alloc),
             stake: Stake {
                 pins: LinkedList::new(alloc),
-                shard: self.stake.shard,
-                file: self.stake.file,
+                put: LinkedList::new(alloc),
+                shard: Hold {
+                    front: self.stake.shard.front,
+                    turn: false,
+                },
+                file: Hold {
+                    front: self.stake.file.front,
+                    turn: false,
+                },
             },
         }
     }
@@ -94,8 +96,8 @@ impl Party {
         }
         self.view.join(alloc, &mut other.view)?;
         let _joined = self.stake.pins.append(&mut other.stake.pins);
-        self.stake.shard = self.stake.shard.max(other.stake.shard);
-        self.stake.file = self.stake.file.max(other.stake.file);
+        self.stake.shard.front = self.stake.shard.front.max(other.stake.shard.front);
+        self.stake.file.front = self.stake.file.front.max(other.stake.file.front);
         Ok(())
     }
 }

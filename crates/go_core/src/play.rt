@@ -1,10 +1,11 @@
-// One step of a party, over the words and the parties.
+// One step of a party, over the words, the parties and the parts.
 ghost use Rattle.std.specs.Prelude.{◌≡◌, ℕ, IfOk, OnErr};
 ghost use Rattle.go_core.specs.Machine.{Row, IsReady, machine_of};
 
 use crate::act::{Act, Event, Out};
+use crate::home::Parts;
 use crate::party::Party;
-use crate::{conditions, steps};
+use crate::{causes, conditions, copies, steps, turns};
 use std::alloc::{AllocError, Global};
 
 // Does the step of one party, or refuses it.
@@ -13,12 +14,14 @@ pub(crate) fn one(
     slots: u64,
     words: &mut Vec<u64>,
     parties: &mut Vec<Party>,
+    parts: &mut Parts,
     event: &Event,
 ) -> Result<Out, AllocError>
-    requires ready { IsReady (machine_of slots 0 words.old.items parties.old.items) event.now.party }
-    ensures row { IfOk result (λ out. (first : ℕ) → Row (machine_of slots first words.old.items parties.old.items) event.now.party event.now.act out (machine_of slots first words.new.items parties.new.items)) }
+    requires ready { IsReady (machine_of slots 0 words.old.items parties.old.items parts.old) event.now.party }
+    ensures row { IfOk result (λ out. (first : ℕ) → Row (machine_of slots first words.old.items parties.old.items parts.old) event.now.party event.now.act out (machine_of slots first words.new.items parties.new.items parts.new)) }
     ensures err_words { OnErr result (words.new.items ≡ words.old.items) }
     ensures err_parties { OnErr result (parties.new.items ≡ parties.old.items) }
+    ensures err_parts { OnErr result (parts.new ≡ parts.old) }
 {
     let i = event.party as usize;
     if !conditions::is_live(parties, i) {
@@ -28,9 +31,18 @@ pub(crate) fn one(
         Act::Claim { edges } => steps::claim(alloc, words, parties, i, edges),
         Act::LoadHead => Ok(steps::load_head(words, parties, i)),
         Act::LoadArchived => steps::load_archived(alloc, words, parties, i),
+        Act::LoadDurable => copies::load_durable(alloc, words, parties, i),
         Act::StoreWord { at } => steps::store_word(slots, words, parties, i, *at),
         Act::LoadOrdered { at } => Ok(steps::load_ordered(slots, words, parties, i, *at)),
+        Act::LoadTentative { at } => copies::load_tentative(slots, words, parties, i, *at),
         Act::StoreArchived { front } => Ok(steps::store_archived(words, parties, i, *front)),
+        Act::StoreDurable { front } => Ok(steps::store_durable(words, parties, i, *front)),
+        Act::TakeTurn { part } => Ok(turns::take_turn(words, parties, parts, i, *part)),
+        Act::PartOut { part } => Ok(turns::take_out(parties, parts, i, *part)),
+        Act::PartIn { part, state } => turns::put_in(alloc, parties, parts, i, *part, state),
+        Act::GiveTurn { part } => turns::give_turn(alloc, words, parties, parts, i, *part),
+        Act::LoadFlag => Ok(causes::load_flag(words, parties, i)),
+        Act::StoreFlag { why } => Ok(causes::store_flag(words, parties, i, *why)),
         Act::Split => steps::split(alloc, parties, i),
         Act::Join { other } => steps::join(alloc, parties, i, *other as usize),
     }

@@ -19,14 +19,16 @@ ghost use lib.ListN.{get_elem?};
 ghost use Rattle.go_word.specs.declared.edge.Edge.{Edge};
 ghost use Rattle.go_word.specs.Word.{is_matched, decode};
 ghost use Rattle.go_core.specs.Frame.{released};
-ghost use Rattle.go_core.specs.Machine.{
-  IsTied,
+ghost use Rattle.go_core.specs.Machine.{IsTied, party_at};
+ghost use Rattle.go_core.specs.History.{
   Run,
+  all_claims,
   IsRead,
   IsWorker,
   HasTaken,
-  all_claims,
-  party_at,
+  IsAssured,
+  IsCopied,
+  AreSure,
 };
 
 use crate::act::{Event, Out};
@@ -53,6 +55,15 @@ pub fn replay(core: &mut Core, events: &[Event], outs: &mut Vec<Out>) -> Result<
         is_matched core.old.frame.slots p x ≡ true →
         get_elem? (log ++ all_claims events.now (drop (vec_len outs.old) outs.new.items)) p
         ≡ some (decode x) }
+
+    // A word that was read ahead of its turn, before a front at or below its position was read, is the
+    // log's entry there where it is matched, and else its position had not been seen.
+    ensures copied { (log : List Edge) → IsTied core.old log → (k i p x : ℕ) →
+        IsAssured events.now (drop (vec_len outs.old) outs.new.items) k i p x →
+        IsCopied core.old events.now (drop (vec_len outs.old) outs.new.items)
+        (log ++ all_claims events.now (drop (vec_len outs.old) outs.new.items)) k i p x }
+    ensures sure { (log : List Edge) → IsTied core.old log → (i : ℕ) →
+        AreSure core.new (log ++ all_claims events.now (drop (vec_len outs.old) outs.new.items)) i }
 
     // What a worker took since is every position up to its taken length, none skipped.
     ensures taken { (i p : ℕ) → IsWorker (party_at core.old i).view →

@@ -23,9 +23,11 @@ ghost use Rattle.go_core.specs.declared.act.Act.TheVariants.{
   StoreWord,
   LoadOrdered,
   StoreArchived,
+  StoreDurable,
   Split,
   Join,
 };
+ghost use Rattle.go_core.specs.declared.home.Parts.{Parts};
 ghost use Rattle.go_core.specs.Machine.{Row, machine_of, absent, IsLiveAt};
 
 use crate::act::Out;
@@ -52,7 +54,7 @@ pub(crate) fn claim(
 ) -> Result<Out, AllocError>
     requires words { 4 ≤ length words.old.items }
     requires live { IsLiveAt parties.old.items i }
-    ensures row { IfOk result (λ out. (slots first : ℕ) → Row (machine_of slots first words.old.items parties.old.items) i (Claim edges.now) out (machine_of slots first words.new.items parties.new.items)) }
+    ensures row { IfOk result (λ out. (slots first : ℕ) (parts : Parts) → Row (machine_of slots first words.old.items parties.old.items parts) i (Claim edges.now) out (machine_of slots first words.new.items parties.new.items parts)) }
     ensures err_words { OnErr result (words.new.items ≡ words.old.items) }
     ensures err_parties { OnErr result (parties.new.items ≡ parties.old.items) }
 {
@@ -71,7 +73,7 @@ pub(crate) fn claim(
 pub(crate) fn load_head(words: &[u64], parties: &mut Vec<Party>, i: usize) -> Out
     requires words { 4 ≤ length words.now }
     requires live { IsLiveAt parties.old.items i }
-    ensures { (slots first : ℕ) → Row (machine_of slots first words.now parties.old.items) i LoadHead result (machine_of slots first words.now parties.new.items) }
+    ensures { (slots first : ℕ) (parts : Parts) → Row (machine_of slots first words.now parties.old.items parts) i LoadHead result (machine_of slots first words.now parties.new.items parts) }
 {
     let head = words[0];
     let party = &mut parties[i];
@@ -88,7 +90,7 @@ pub(crate) fn load_archived(
 ) -> Result<Out, AllocError>
     requires words { 4 ≤ length words.now }
     requires live { IsLiveAt parties.old.items i }
-    ensures row { IfOk result (λ out. (slots first : ℕ) → Row (machine_of slots first words.now parties.old.items) i LoadArchived out (machine_of slots first words.now parties.new.items)) }
+    ensures row { IfOk result (λ out. (slots first : ℕ) (parts : Parts) → Row (machine_of slots first words.now parties.old.items parts) i LoadArchived out (machine_of slots first words.now parties.new.items parts)) }
     ensures err { OnErr result (parties.new.items ≡ parties.old.items) }
 {
     let front = words[1];
@@ -98,7 +100,7 @@ pub(crate) fn load_archived(
 }
 
 // The place of a position's word.
-fn place_of(slots: u64, at: u64) -> usize
+pub(crate) fn place_of(slots: u64, at: u64) -> usize
     requires some { 0 < slots }
     requires few { slots ≤ 2 ^ 48 }
     ensures value { result ≡ 6 + at % slots }
@@ -120,7 +122,7 @@ pub(crate) fn store_word(
     requires words { length words.old.items ≡ 6 + slots }
     requires live { IsLiveAt parties.old.items i }
     requires storable { All (λ x. IsStorable x.edge) (slice_index_or parties.old.items i absent).view.pending }
-    ensures row { IfOk result (λ out. (first : ℕ) → Row (machine_of slots first words.old.items parties.old.items) i (StoreWord at) out (machine_of slots first words.new.items parties.new.items)) }
+    ensures row { IfOk result (λ out. (first : ℕ) (parts : Parts) → Row (machine_of slots first words.old.items parties.old.items parts) i (StoreWord at) out (machine_of slots first words.new.items parties.new.items parts)) }
     ensures err_words { OnErr result (words.new.items ≡ words.old.items) }
     ensures err_parties { OnErr result (parties.new.items ≡ parties.old.items) }
 {
@@ -150,7 +152,7 @@ pub(crate) fn load_ordered(
     requires words { length words.now ≡ 6 + slots }
     requires live { IsLiveAt parties.old.items i }
     requires taken { (slice_index_or parties.old.items i absent).view.taken ≤ 2 ^ 48 }
-    ensures { (first : ℕ) → Row (machine_of slots first words.now parties.old.items) i (LoadOrdered at) result (machine_of slots first words.now parties.new.items) }
+    ensures { (first : ℕ) (parts : Parts) → Row (machine_of slots first words.now parties.old.items parts) i (LoadOrdered at) result (machine_of slots first words.now parties.new.items parts) }
 {
     let party = &mut parties[i];
     if !conditions::can_take(words, &party.view, at) {
@@ -174,7 +176,7 @@ pub(crate) fn store_archived(
 ) -> Out
     requires words { 4 ≤ length words.old.items }
     requires live { IsLiveAt parties.old.items i }
-    ensures { (slots first : ℕ) → Row (machine_of slots first words.old.items parties.old.items) i (StoreArchived front) result (machine_of slots first words.new.items parties.new.items) }
+    ensures { (slots first : ℕ) (parts : Parts) → Row (machine_of slots first words.old.items parties.old.items parts) i (StoreArchived front) result (machine_of slots first words.new.items parties.new.items parts) }
 {
     let party = &mut parties[i];
     if !conditions::can_archive(words, &party.view, &party.stake, front) {
@@ -185,10 +187,30 @@ pub(crate) fn store_archived(
     Out::Done
 }
 
+// A store of the durable front.
+pub(crate) fn store_durable(
+    words: &mut Vec<u64>,
+    parties: &mut Vec<Party>,
+    i: usize,
+    front: u64,
+) -> Out
+    requires words { 4 ≤ length words.old.items }
+    requires live { IsLiveAt parties.old.items i }
+    ensures { (slots first : ℕ) (parts : Parts) → Row (machine_of slots first words.old.items parties.old.items parts) i (StoreDurable front) result (machine_of slots first words.new.items parties.new.items parts) }
+{
+    let party = &mut parties[i];
+    if !conditions::can_flush(words, &party.view, &party.stake, front) {
+        return Out::Refused;
+    }
+    party.view.flush(front);
+    words[2] = front;
+    Out::Done
+}
+
 // A split of a new party.
 pub(crate) fn split(alloc: Global, parties: &mut Vec<Party>, i: usize) -> Result<Out, AllocError>
     requires live { IsLiveAt parties.old.items i }
-    ensures row { IfOk result (λ out. (slots first : ℕ) (words : List ℕ) → Row (machine_of slots first words parties.old.items) i Split out (machine_of slots first words parties.new.items)) }
+    ensures row { IfOk result (λ out. (slots first : ℕ) (words : List ℕ) (parts : Parts) → Row (machine_of slots first words parties.old.items parts) i Split out (machine_of slots first words parties.new.items parts)) }
     ensures err { OnErr result (parties.new.items ≡ parties.old.items) }
 {
     let count = parties.len();
@@ -212,10 +234,10 @@ pub(crate) fn join(
     j: usize,
 ) -> Result<Out, AllocError>
     requires live { IsLiveAt parties.old.items i }
-    ensures row { IfOk result (λ out. (slots first : ℕ) (words : List ℕ) → Row (machine_of slots first words parties.old.items) i (Join j) out (machine_of slots first words parties.new.items)) }
+    ensures row { IfOk result (λ out. (slots first : ℕ) (words : List ℕ) (parts : Parts) → Row (machine_of slots first words parties.old.items parts) i (Join j) out (machine_of slots first words parties.new.items parts)) }
     ensures err { OnErr result (parties.new.items ≡ parties.old.items) }
 {
-    if j == i || !conditions::is_live(parties, j) || !conditions::can_join(&parties[j].view) {
+    if j == i || !conditions::is_live(parties, j) || !conditions::can_join(&parties[j]) {
         return Ok(Out::Refused);
     }
     let mut other = mem::replace(&mut parties[j], Party::absent(alloc));

@@ -1,10 +1,10 @@
-// Worked rows: a claim, its stores and ordered loads; and pseudo-random events of five parties.
+// Worked rows: the answers of a few parties, step by step.
 use crate::{Act, Core, EdgeSeq, Event, Out, Role, replay};
-use go_word::{Edge, decode, matched};
+use go_word::Edge;
 use std::alloc::{AllocError, Global};
 use std::test::Fail;
 
-fn add(src: u32, dst: u32) -> Edge {
+pub(crate) fn add(src: u32, dst: u32) -> Edge {
     Edge {
         del: false,
         src,
@@ -12,7 +12,7 @@ fn add(src: u32, dst: u32) -> Edge {
     }
 }
 
-fn claim(alloc: Global, party: u32, edge: Edge) -> Result<Event, AllocError> {
+pub(crate) fn claim(alloc: Global, party: u32, edge: Edge) -> Result<Event, AllocError> {
     let edges = EdgeSeq::of(alloc, &[edge])?;
     Ok(Event {
         party,
@@ -20,7 +20,7 @@ fn claim(alloc: Global, party: u32, edge: Edge) -> Result<Event, AllocError> {
     })
 }
 
-fn event(party: u32, act: Act) -> Event {
+pub(crate) fn event(party: u32, act: Act) -> Event {
     Event { party, act }
 }
 
@@ -135,69 +135,50 @@ fn claims_that_are_refused(rt: HostRuntime) -> Result<(), Fail> {
     Ok(())
 }
 
-// The next of a row of numbers that look random.
-fn next(seed: u64) -> u64 {
-    seed.wrapping_mul(6364136223846793005)
-        .wrapping_add(1442695040888963407)
-}
-
-// One of the acts, by a number.
-fn any_act(alloc: Global, number: u64, length: u64) -> Result<Act, AllocError> {
-    let at = (number >> 16) % length.saturating_add(2).max(1);
-    let src = ((number >> 24) % 100) as u32;
-    Ok(match number % 8 {
-        0 => Act::Claim {
-            edges: EdgeSeq::of(alloc, &[add(src, 1), add(1, src)])?,
-        },
-        1 => Act::LoadHead,
-        2 => Act::LoadArchived,
-        3 => Act::LoadOrdered { at },
-        4 => Act::StoreArchived { front: at },
-        _ => Act::StoreWord { at },
-    })
+#[test]
+fn a_copy_reads_ahead_of_the_workers(rt: HostRuntime) -> Result<(), Fail> {
+    let alloc = rt.alloc();
+    let roles = [Role::Session, Role::Archiver, Role::Flusher];
+    let mut core = Core::new(alloc, 4, 0, &roles)?;
+    let first = Out::Word {
+        word: 0x4000_0000_0000_0001,
+    };
+    core.step(&claim(alloc, 0, add(0, 1))?)?;
+    core.step(&claim(alloc, 0, add(0, 1))?)?;
+    for (party, act, out) in [
+        (0, Act::StoreWord { at: 0 }, Out::Done),
+        (0, Act::LoadTentative { at: 0 }, Out::Refused),
+        (0, Act::LoadHead, Out::Number { value: 2 }),
+        (0, Act::LoadArchived, Out::Number { value: 0 }),
+        (0, Act::LoadTentative { at: 0 }, first),
+        (0, Act::LoadTentative { at: 1 }, Out::Word { word: 0 }),
+        (0, Act::LoadTentative { at: 2 }, Out::Refused),
+        (0, Act::LoadDurable, Out::Number { value: 0 }),
+        (2, Act::LoadOrdered { at: 0 }, first),
+        (2, Act::StoreDurable { front: 1 }, Out::Refused),
+        (1, Act::StoreDurable { front: 0 }, Out::Refused),
+        (2, Act::StoreDurable { front: 0 }, Out::Done),
+    ] {
+        assert_eq!(rt; core.step(&event(party, act))?, out);
+    }
+    Ok(())
 }
 
 #[test]
-fn events_of_five_parties_stay_tied_to_the_log(rt: HostRuntime) -> Result<(), Fail> {
+fn the_flag_is_the_cause_that_was_raised_last(rt: HostRuntime) -> Result<(), Fail> {
     let alloc = rt.alloc();
-    let roles = [
-        Role::Session,
-        Role::Session,
-        Role::Archiver,
-        Role::Flusher,
-        Role::Session,
-    ];
-    let mut core = Core::new(alloc, 256, 0, &roles)?;
-    let mut log = Vec::new(alloc);
-    let mut seed = 7;
-    let mut taken = 0u64;
-    for _ in 0..3000 {
-        seed = next(seed);
-        let number = seed >> 20;
-        let party = ((seed >> 12) % 5) as u32;
-        let step = event(party, any_act(alloc, number, log.len() as u64)?);
-        let out = core.step(&step)?;
-        match (&step.act, out) {
-            (Act::Claim { edges }, Out::Number { value }) => {
-                assert_eq!(rt; value, log.len() as u64, "a claim begins at the log's end");
-                log.extend_from_slice(edges.as_slice())?;
-            }
-            (Act::LoadHead, Out::Number { value }) => {
-                assert_eq!(rt; value, log.len() as u64, "the log's length");
-            }
-            (Act::LoadOrdered { at }, Out::Word { word }) => {
-                if matched(word, *at, 256) {
-                    assert_eq!(rt;
-                        log.get(*at as usize).copied(),
-                        Some(decode(word)),
-                        "at {at}"
-                    );
-                    taken = taken.saturating_add(1);
-                }
-            }
-            _ => {}
-        }
+    let mut core = Core::new(alloc, 4, 0, &[Role::Session, Role::Archiver])?;
+    for (party, act, out) in [
+        (0, Act::LoadFlag, Out::Number { value: 0 }),
+        (0, Act::StoreFlag { why: 0 }, Out::Refused),
+        (0, Act::StoreFlag { why: 3 }, Out::Refused),
+        (0, Act::StoreFlag { why: 2 }, Out::Done),
+        (1, Act::LoadFlag, Out::Number { value: 2 }),
+        (1, Act::StoreFlag { why: 1 }, Out::Done),
+        (0, Act::LoadFlag, Out::Number { value: 1 }),
+        (2, Act::LoadFlag, Out::Refused),
+    ] {
+        assert_eq!(rt; core.step(&event(party, act))?, out);
     }
-    assert!(rt; 0 < taken, "some word was taken");
     Ok(())
 }

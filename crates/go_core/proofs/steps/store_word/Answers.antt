@@ -29,10 +29,10 @@ returns-then-slots-saturating_sub-clause-row c =
     let i = c.args.i in
     let p = c.index_mut-party.result.now in
     let same : p ≡ get_or ps i absent = party_read ps i p c.requires.live.within c.index_mut-party.ensures.value in
-    λ first.
-    (let m = machine_of c.args.slots first c.args.words.now.items ps in
+    λ first parts.
+    (let m = machine_of c.args.slots first c.args.words.now.items ps parts in
     let full : HasRoom m.frame p.view c.args.at → ⊥ = λ room. omega arith in
     let o = find (stands_at c.args.at) (party_at m i).view.pending in
     let unchanged : set ps i p ≡ ps = ap (set ps i) c.index_mut-party.ensures.value ∙ set-get_or ps i p in
-    subst (λ (zs : List Party). Stores m i c.args.at o Refused (machine_of c.args.slots first c.args.words.now.items zs)) (sym unchanged)
+    subst (λ (zs : List Party). Stores m i c.args.at o Refused (machine_of c.args.slots first c.args.words.now.items zs parts)) (sym unchanged)
     (stores_refused m i c.args.at o (subst (λ (z : Party). HasRoom m.frame z.view c.args.at → ⊥) same full)))

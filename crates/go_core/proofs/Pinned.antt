@@ -1,0 +1,191 @@
+-- The pins that parties hold stand in the shard, whichever party changes what.
+use Rattle.std.proofs.Common.{◌≡◌, ℕ, ◌+◌, ◌≤◌, ◌≢◌, ◌⊎◌, Bool, true, false, List, [], ◌∷◌, ◌++◌, get_or, set, sym, refl, ap, ◌∙◌, inl, inr, ⊎_elim, arith, subst}
+use Rattle.std.specs.Prelude.{All, Contains, count_by, filter, find, not, Some, ◌||◌}
+use Rattle.std.proofs.lemmas.Bool.{cases_Bool}
+use Rattle.std.proofs.lemmas.List.Elements.{All-nil, All-append, All-push, All-set, All-contains, Contains-get_or, filter_passes}
+use mathlib.Core.Option.{some}
+use lib.ListN.{get_elem?}
+use Rattle.go_core.specs.declared.pin.Pin.{Pin}
+use Rattle.go_core.specs.declared.part.PartState.{PartState}
+use Rattle.go_core.specs.Pins.{is_named, has_name}
+use Rattle.go_core.specs.Parts.{KeepsPins, owns, IsPinnedBy, ArePinned}
+use Rattle.go_core.proofs.Lookups.{lookup-get_or, lookup-set_other, lookup-same}
+use Rattle.go_core.proofs.PinLaws.{named_in, has-in, has-pin, has-append}
+use Rattle.go_core.proofs.TurnLaws.{bit_of, count-set, count-push, not_two, count-none}
+
+-- one test has one outcome
+apart : (b : Bool) → b ≡ true → b ≡ false → ⊥
+apart b yes' no' = cc
+
+-- of two conditions
+or_left : (a b : Bool) → a ≡ true → (a || b) ≡ true
+or_left true b is = refl
+or_left false b is = absurd (apart false is refl)
+
+or_right : (a b : Bool) → b ≡ true → (a || b) ≡ true
+or_right true b is = refl
+or_right false b is = is
+
+pub or_cases : (a b : Bool) → (a || b) ≡ true → (a ≡ true) ⊎ (b ≡ true)
+or_cases true b is = inl refl
+or_cases false b is = inr is
+
+or_neither : (a b : Bool) → (a || b) ≡ false → (a ≡ false) × (b ≡ false)
+or_neither true b is = absurd (apart true refl is)
+or_neither false b is = (refl, is)
+
+not_true : (b : Bool) → not b ≡ true → b ≡ false
+not_true true is = absurd (apart false is refl)
+not_true false is = refl
+
+-- a condition that implies another counts no more
+bit_le : (a b : Bool) → (a ≡ true → b ≡ true) → bit_of a ≤ bit_of b
+bit_le true b implies = let e : bit_of b ≡ 1 = ap bit_of (implies refl) in omega arith
+bit_le false b implies = omega arith
+
+-- and one that is the sum of two counts at most as much as both
+bit_sum : (a b c : Bool) → (a ≡ true → (b || c) ≡ true) → bit_of a ≤ bit_of b + bit_of c
+bit_sum true true c implies = omega arith
+bit_sum true false c implies = let e : bit_of c ≡ 1 = ap bit_of (implies refl) in omega arith
+bit_sum false b c implies = omega arith
+
+-- the names that a filter leaves pass it
+pub named_passes : (test : Pin → Bool) (all : List Pin) (id : ℕ) → has_name id (filter test all) ≡ true → (p : Pin) × (test p ≡ true) × (p.id ≡ id)
+named_passes test all id is = let found = has-pin id (filter test all) is in (found.0, All-contains (λ x. test x ≡ true) (filter test all) found.0 (filter_passes test all) found.1, found.2)
+
+module _ {S : Type 0} (pins put : S → List Pin) (has : S → Bool) where
+  -- one party has other pins, and no name more
+  pub pinned_set : (held : List Pin) (parties : List S) (i : ℕ) (s s' : S) → get_elem? parties i ≡ some s → IsPinnedBy pins put has held s' → ((id : ℕ) → owns pins put id s' ≡ true → owns pins put id s ≡ true) → ArePinned pins put has held parties → ArePinned pins put has held (set parties i s')
+  pinned_set held parties i s s' there one fewer are =
+      record {
+        each = All-set (IsPinnedBy pins put has held) parties i s' one are.each;
+        apart = λ id.
+            (let change = count-set (owns pins put id) parties i s s' there in
+            let few = are.apart id in
+            let less = bit_le (owns pins put id s') (owns pins put id s) (fewer id) in
+            omega arith);
+      }
+
+  -- a party comes that holds none
+  pub pinned_more : (held : List Pin) (parties : List S) (s : S) → pins s ≡ [] → put s ≡ [] → ArePinned pins put has held parties → ArePinned pins put has held (parties ++ s ∷ [])
+  pinned_more held parties s none none_put are =
+      record {
+        each = All-push (IsPinnedBy pins put has held) parties s are.each
+            (record { pinned = λ free. subst (All (Contains held)) (sym none) (All-nil (Contains held)); none_put = λ free. none_put });
+        apart = λ id.
+            (let change = count-push (owns pins put id) parties s in
+            let few = are.apart id in
+            let no_name : owns pins put id s ≡ false = ap (λ ps. has_name id ps || has_name id (put s)) none ∙ ap (λ ps. has_name id ps) none_put in
+            let nothing : bit_of (owns pins put id s) ≡ 0 = ap bit_of no_name in
+            omega arith);
+      }
+
+  -- another party is joined in, which has no turn
+  pub pinned_joined : (held : List Pin) (parties : List S) (i j : ℕ) (s o both gone : S) → j ≢ i → get_elem? parties i ≡ some s → get_elem? parties j ≡ some o → IsPinnedBy pins put has held s → IsPinnedBy pins put has held o → has o ≡ false → has both ≡ has s
+      → pins both ≡ pins s ++ pins o → put both ≡ put s → pins gone ≡ [] → put gone ≡ [] → ArePinned pins put has held parties → ArePinned pins put has held (set (set parties i both) j gone)
+  pinned_joined held parties i j s o both gone ne there other mine theirs free turn all_pins as_put none none_put are =
+      record {
+        each = All-set (IsPinnedBy pins put has held) (set parties i both) j gone
+            (record { pinned = λ _. subst (All (Contains held)) (sym none) (All-nil (Contains held)); none_put = λ _. none_put })
+            (All-set (IsPinnedBy pins put has held) parties i both
+            (record {
+              pinned = λ not'. subst (All (Contains held)) (sym all_pins) (All-append (Contains held) (pins s) (pins o) (mine.pinned (sym turn ∙ not')) (theirs.pinned free));
+              none_put = λ not'. as_put ∙ mine.none_put (sym turn ∙ not');
+            }) are.each);
+        apart = λ id.
+            (let other' : get_elem? (set parties i both) j ≡ some o = lookup-set_other parties i j both ne ∙ other in
+            let first = count-set (owns pins put id) parties i s both there in
+            let second = count-set (owns pins put id) (set parties i both) j o gone other' in
+            let few = are.apart id in
+            let no_name : owns pins put id gone ≡ false = ap (λ ps. has_name id ps || has_name id (put gone)) none ∙ ap (λ ps. has_name id ps) none_put in
+            let nothing : bit_of (owns pins put id gone) ≡ 0 = ap bit_of no_name in
+            let sum = bit_sum (owns pins put id both) (owns pins put id s) (owns pins put id o) (λ is. joined_name id s o both all_pins as_put is) in
+            omega arith);
+      }
+    where
+      joined_name : (id : ℕ) (s o both : S) → pins both ≡ pins s ++ pins o → put both ≡ put s → owns pins put id both ≡ true → (owns pins put id s || owns pins put id o) ≡ true
+      joined_name id s o both all_pins as_put is =
+          ⊎_elim
+          (λ in_pins.
+          ⊎_elim (λ mine. or_left (owns pins put id s) (owns pins put id o) (or_left (has_name id (pins s)) (has_name id (put s)) mine))
+          (λ theirs. or_right (owns pins put id s) (owns pins put id o) (or_left (has_name id (pins o)) (has_name id (put o)) theirs))
+          (or_cases (has_name id (pins s)) (has_name id (pins o)) (sym (has-append id (pins s) (pins o)) ∙ ap (has_name id) (sym all_pins) ∙ in_pins)))
+          (λ in_put. or_left (owns pins put id s) (owns pins put id o) (or_right (has_name id (pins s)) (has_name id (put s)) (ap (has_name id) (sym as_put) ∙ in_put)))
+          (or_cases (has_name id (pins both)) (has_name id (put both)) is)
+
+  -- the party that has the turn puts the shard in
+  module _ (parties : List S) (i : ℕ) (s s' : S) (archived : ℕ) (old new : PartState) (there : get_elem? parties i ≡ some s) (mine : has s ≡ true) (few : count_by has parties ≤ 1) (keeps : KeepsPins archived (λ id. owns pins put id s) old new) (are : ArePinned pins put has old.pins parties) where
+    -- another party has no turn
+    no_turn : (k : ℕ) (t : S) → k ≢ i → get_elem? parties k ≡ some t → has t ≡ false
+    no_turn k t ne other = ⊎_elim (λ theirs. absurd (not_two has parties i k s t ne there other few mine theirs)) (λ free. free) (cases_Bool (has t))
+
+    -- and a name of its pins isn't that of the party with the turn
+    not_mine : (k : ℕ) (t : S) (id : ℕ) → k ≢ i → get_elem? parties k ≡ some t → owns pins put id t ≡ true → owns pins put id s ≡ false
+    not_mine k t id ne other theirs =
+        ⊎_elim (λ (own : owns pins put id s ≡ true). absurd (not_two (owns pins put id) parties i k s t ne there other (are.apart id) own theirs)) (λ free. free) (cases_Bool (owns pins put id s))
+
+    -- so what another party holds is still there
+    still_held : All (IsPinnedBy pins put has new.pins) parties
+    still_held k d within =
+        let t = get_or parties k d in
+        let other : get_elem? parties k ≡ some t = lookup-get_or parties k d within in
+        record {
+          pinned = λ free q e inside.
+              (let pin = get_or (pins t) q e in
+              let ne : k ≢ i = λ same. apart (has t) (ap has (lookup-same parties i t s (sym (ap (get_elem? parties) same) ∙ other) there) ∙ mine) free in
+              let held : Contains old.pins pin = (are.each k d within).pinned free q e inside in
+              let named : has_name pin.id (pins t) ≡ true = has-in (pins t) pin (Contains-get_or (pins t) q e inside) in
+              let not' : owns pins put pin.id s ≡ false = not_mine k t pin.id ne other (or_left (has_name pin.id (pins t)) (has_name pin.id (put t)) named) in
+              let stays : find (is_named pin.id) new.pins ≡ Some pin = All-contains (λ x. owns pins put x.id s ≡ false → find (is_named x.id) new.pins ≡ Some x) old.pins pin keeps.others held not' in
+              (named_in pin.id new.pins pin stays).0);
+          none_put = (are.each k d within).none_put;
+        }
+
+    -- a new name was nobody's
+    nobody : (id : ℕ) → owns pins put id s ≡ false → has_name id old.pins ≡ false → count_by (owns pins put id) parties ≡ 0
+    nobody id not' fresh =
+        count-none (owns pins put id) parties
+        (λ k d within.
+        (let t = get_or parties k d in
+        let other : get_elem? parties k ≡ some t = lookup-get_or parties k d within in
+        ⊎_elim
+        (λ (theirs : owns pins put id t ≡ true).
+        let ne : k ≢ i = λ same. apart (owns pins put id t) theirs (ap (owns pins put id) (lookup-same parties i t s (sym (ap (get_elem? parties) same) ∙ other) there) ∙ not') in
+        let free : has t ≡ false = no_turn k t ne other in
+        let one = are.each k d within in
+        let named : has_name id (pins t) ≡ true =
+        ⊎_elim (λ in_pins. in_pins) (λ in_put. absurd (apart false (sym (ap (has_name id) (one.none_put free)) ∙ in_put) refl)) (or_cases (has_name id (pins t)) (has_name id (put t)) theirs)
+        in
+        let found = has-pin id (pins t) named in
+        let held : Contains old.pins found.0 = All-contains (Contains old.pins) (pins t) found.0 (one.pinned free) found.1 in
+        let there' : has_name id old.pins ≡ true = ap (λ n. has_name n old.pins) (sym found.2) ∙ has-in old.pins found.0 held in
+        absurd (apart (has_name id old.pins) there' fresh))
+        (λ none. none) (cases_Bool (owns pins put id t))))
+
+    pub pinned_put : has s' ≡ true → pins s' ≡ pins s → put s' ≡ filter (λ pin. owns pins put pin.id s || not (has_name pin.id old.pins)) new.pins → ArePinned pins put has new.pins (set parties i s')
+    pinned_put turn same_pins is_put =
+        let test : Pin → Bool = λ pin. owns pins put pin.id s || not (has_name pin.id old.pins) in
+        record {
+          each = All-set (IsPinnedBy pins put has new.pins) parties i s' (record { pinned = λ free. absurd (apart (has s') turn free); none_put = λ free. absurd (apart (has s') turn free) }) still_held;
+          apart = λ id.
+              (let change = count-set (owns pins put id) parties i s s' there in
+              let before = are.apart id in
+              ⊎_elim
+              (λ (now : owns pins put id s' ≡ true).
+              let one : bit_of (owns pins put id s') ≡ 1 = ap bit_of now in
+              ⊎_elim (λ (own : owns pins put id s ≡ true). let was : bit_of (owns pins put id s) ≡ 1 = ap bit_of own in omega arith)
+              (λ (not' : owns pins put id s ≡ false).
+              let neither = or_neither (has_name id (pins s)) (has_name id (put s)) not' in
+              let in_put : has_name id (put s') ≡ true =
+              ⊎_elim (λ in_pins. absurd (apart (has_name id (pins s)) (ap (has_name id) (sym same_pins) ∙ in_pins) neither.0)) (λ in_put. in_put) (or_cases (has_name id (pins s')) (has_name id (put s')) now)
+              in
+              let found = named_passes test new.pins id (ap (has_name id) (sym is_put) ∙ in_put) in
+              let passed : (owns pins put id s || not (has_name id old.pins)) ≡ true = ap (λ n. owns pins put n s || not (has_name n old.pins)) (sym found.2) ∙ found.1 in
+              let fresh : has_name id old.pins ≡ false =
+              ⊎_elim (λ own. absurd (apart (owns pins put id s) own not')) (λ new'. not_true (has_name id old.pins) new') (or_cases (owns pins put id s) (not (has_name id old.pins)) passed)
+              in
+              let zero' = nobody id not' fresh in
+              let was : bit_of (owns pins put id s) ≡ 0 = ap bit_of not' in
+              omega arith) (cases_Bool (owns pins put id s)))
+              (λ (none : owns pins put id s' ≡ false). let nothing : bit_of (owns pins put id s') ≡ 0 = ap bit_of none in omega arith) (cases_Bool (owns pins put id s')));
+        }
