@@ -5,6 +5,8 @@ use Rattle.std.proofs.Math.Seq.{take-append_seam}
 use Rattle.std.proofs.lemmas.List.{drop_all}
 use Rattle.std.proofs.lemmas.Option.{slice_get_within, get_or_from_slice_get}
 use Rattle.std.proofs.lemmas.List.Sums.{sum_by-cons}
+use Rattle.std.proofs.lemmas.List.Elements.{All-from_recursion}
+use Rattle.std.specs.List.{All, AllByRecursion}
 use Rattle.go_word.specs.declared.edge.Edge.{Edge}
 use Rattle.go_api.specs.Alone.{positions}
 use Rattle.go_api.specs.Laid.{Rises, HasPuts, times_owned, Laid, IsWhole}
@@ -57,9 +59,26 @@ positions_once p first (suc count) from within =
     ]
 
 -- they rise
-positions_rise : (first count : ℕ) → Rises first (positions first count)
+pub positions_rise : (first count : ℕ) → Rises first (positions first count)
 positions_rise first zero = tt
 positions_rise first (suc count) = (omega arith, positions_rise (first + 1) count)
+
+-- one position more
+positions_more : (first count : ℕ) → positions first (suc count) ≡ positions first count ++ (first + count) ∷ []
+positions_more first zero = ap (λ n. n ∷ []) (omega arith)
+positions_more first (suc count) =
+    let last : (first + 1) + count ≡ first + suc count = omega arith in
+    ap (λ l. first ∷ l) (positions_more (first + 1) count ∙ ap (λ n. positions (first + 1) count ++ n ∷ []) last)
+
+pub positions-push : (first count : ℕ) → positions first (count + 1) ≡ positions first count ++ (first + count) ∷ []
+positions-push first count = ap (positions first) (add-one count) ∙ positions_more first count
+
+-- they lie below their end
+pub positions_below : (first count n : ℕ) → first + count ≤ n → All (λ p. p < n) (positions first count)
+positions_below first count n end = All-from_recursion (λ p. p < n) (positions first count) (each first count n end) where
+  each : (first count n : ℕ) → first + count ≤ n → AllByRecursion (λ p. p < n) (positions first count)
+  each first zero n end = tt
+  each first (suc count) n end = (omega arith, each (first + 1) count n (omega arith))
 
 -- the log has the puts at their positions
 has_puts : (old puts : List Edge) → HasPuts (old ++ puts) (positions (length old) (length puts)) puts

@@ -1,3 +1,6 @@
 -- What the sessions of a store agree on.
 pub mod Laid
 pub mod Alone
+pub mod Standing
+pub mod Calls
+pub mod Limits

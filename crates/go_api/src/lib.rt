@@ -1,7 +1,10 @@
-//! What the sessions of a store and the store agree on: how the entries of several sessions lie behind an old log.
+//! What the sessions of a store and the store agree on.
 //!
-//! Contracts cite `Laid` of specs/Laid.antt: a log is the old one and then an interleaving of what the sessions put,
-//! each session's entries in its own order. Each position behind the old log is owned by one session, once.
+//! `Store` is one session's handle of a store. Contracts see it as a `Standing` of specs/Standing.antt: what the session put and
+//! where, what it has seen, what stands at its places. specs/Calls.antt has what each call answers and leaves, in clauses that a
+//! store meets too whose log others write at the same time.
+//! `Laid` of specs/Laid.antt says how a log is made up: the old one and then an interleaving of what the sessions put, each
+//! session's entries in its own order. Each position behind the old log is owned by one session, once.
 //! A caller may rely on the laws of `laid_alone`: what one session alone puts can lie behind a log in one way only.
 //! `positions` of specs/Alone.antt are the positions that it then owns; proofs/AloneLemmas.antt exports the lemmas on them.
 //! `Stop`, `Setup` and `Finished` are plain data: why a store stops, how large it is, and what is left of it.
@@ -10,10 +13,14 @@
 
 mod alone;
 mod finished;
+mod place;
 mod setup;
 mod stop;
+mod store;
 
 pub use alone::laid_alone;
 pub use finished::Finished;
+pub use place::Place;
 pub use setup::Setup;
 pub use stop::Stop;
+pub use store::Store;

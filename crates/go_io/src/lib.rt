@@ -7,11 +7,13 @@
 //! `MemShelf` and `MemSink` tell all they hold, and fail exactly where they were told to: they are for tests.
 //! `FolderShelf` and `StdSink` read files of the current folder and write to standard output.
 //! Want of memory is an answer of its own, of which no clause says when it comes.
+//! `Gate` is where a test holds sessions and workers back; `NoGate` holds nobody.
 //! Left out: that a real file or output behaves as the traits say, of which nothing is proved.
 #![tactic(auto)]
 
 mod counts;
 mod folder_shelf;
+mod gate;
 mod mem_shelf;
 mod mem_sink;
 mod shelf;
@@ -19,6 +21,7 @@ mod sink;
 mod std_sink;
 
 pub use folder_shelf::FolderShelf;
+pub use gate::{Gate, NoGate, Worker};
 pub use go_text::Failed;
 pub use mem_shelf::MemShelf;
 pub use mem_sink::MemSink;

@@ -1,5 +1,5 @@
 -- What a log is: a list of entries, the oldest first.
-use Rattle.std.specs.Prelude.{◌≡◌, ℕ, ◌<◌, ◌==◌, Bool, false, List, filter, All, count_by}
+use Rattle.std.specs.Prelude.{◌≡◌, ℕ, ◌<◌, ◌≤◌, ◌==◌, Bool, false, List, length, filter, All, count_by}
 use Rattle.go_word.specs.declared.edge.Edge.{Edge}
 
 -- an entry leaves the vertex s
@@ -22,3 +22,7 @@ raw log s = count_by (leaves s) log
 pub record IsWithin (v : ℕ) (e : Edge) : Type 0 where
   pub source : e.src < v
   pub destination : e.dst < v
+
+-- a log may be read up to this front: so far each one up to its length is such an end
+abbrev pub IsEnd : List Edge → ℕ → Type 0
+IsEnd log front = front ≤ length log

@@ -1,0 +1,10 @@
+// What stands at a place of a session.
+
+/// What a session keeps at one of its places.
+#[derive(Clone, Copy, Debug, PartialEq, Eq)]
+pub enum Place {
+    /// Nothing.
+    Free,
+    /// A view of the log's first entries, as many as its front.
+    View { front: u64 },
+}
