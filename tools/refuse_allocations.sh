@@ -5,9 +5,10 @@
 set -u
 here=$(cd "$(dirname "$0")/.." && pwd)
 script=$(readlink -f "${1:-$here/examples/first.gs}")
-log=$(mktemp)
-trap 'rm -f "$log"' EXIT
-ample=$("$here/graphone" drive "$script") || exit 1
+work=$(mktemp -d)
+log=$work/log
+trap 'rm -rf "$work"' EXIT
+ample=$(cd "$work" && "$here/graphone" drive "$script") || exit 1
 cd "$here/crates/graphone" || exit 1
 
 # How a run ends whose allocation of this number is refused.

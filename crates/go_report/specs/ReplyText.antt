@@ -1,7 +1,7 @@
 -- The texts of replies and of whole sessions.
 use Rattle.std.specs.Prelude.{◌≡◌, ℕ, List, [], ◌∷◌, ◌++◌, length, take, flat_map, codes, decimal}
 use Rattle.go_report.specs.declared.reply.Reply.{Reply}
-use Rattle.go_report.specs.declared.reply.Reply.TheVariants.{Added, Viewed, Neighbours}
+use Rattle.go_report.specs.declared.reply.Reply.TheVariants.{Added, Deleted, Viewed, Neighbours}
 
 -- a text as a line: a line feed ends it
 abbrev pub as_line : List ℕ → List ℕ
@@ -14,6 +14,7 @@ items_of list = flat_map (λ n. codes " " ++ decimal n) list
 -- the text of a reply
 abbrev pub text_of : Reply → List ℕ
 text_of (Added position) = as_line (codes "add " ++ decimal position)
+text_of (Deleted position) = as_line (codes "del " ++ decimal position)
 text_of (Viewed place front) = as_line (codes "view " ++ decimal place ++ codes " at " ++ decimal front)
 text_of (Neighbours vertex list) = as_line (codes "neigh " ++ decimal vertex ++ codes ":" ++ items_of list)
 

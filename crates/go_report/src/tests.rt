@@ -15,6 +15,7 @@ fn a_session_begins_with_its_heading(rt: HostRuntime) -> Result<(), Fail> {
     let list = Ids::of(rt.alloc(), &[5])?;
     let replies = [
         Reply::Added { position: 0 },
+        Reply::Deleted { position: 12 },
         Reply::Viewed { place: 0, front: 1 },
         Reply::Neighbours { vertex: 3, list },
     ];
@@ -25,7 +26,7 @@ fn a_session_begins_with_its_heading(rt: HostRuntime) -> Result<(), Fail> {
     }
     assert_eq!(rt;
         out.as_slice(),
-        b"session 1\nadd 0\nview 0 at 1\nneigh 3: 5\n".as_slice()
+        b"session 1\nadd 0\ndel 12\nview 0 at 1\nneigh 3: 5\n".as_slice()
     );
     Ok(())
 }

@@ -1,7 +1,7 @@
 // The texts of replies and headings, appended to a list of bytes.
 
-ghost use Rattle.std.specs.Prelude.{◌≡◌, ◌++◌, OnOk, OnErr, is_ok, if◌then◌else◌, take};
-ghost use Rattle.go_report.specs.ReplyText.{items_of, text_of, heading_of, StillBegins};
+ghost use Rattle.std.specs.Prelude.{◌≡◌, ◌++◌, OnOk, OnErr, is_ok, if◌then◌else◌, take, decimal};
+ghost use Rattle.go_report.specs.ReplyText.{as_line, items_of, text_of, heading_of, StillBegins};
 
 use crate::reply::Reply;
 use go_text::{put_number, put_text};
@@ -47,7 +47,8 @@ fn put_reply(reply: &Reply, out: &mut Vec<u8>) -> Result<(), AllocError>
     ensures err { OnErr result (StillBegins out.old.items out.new.items) }
 {
     match reply {
-        Reply::Added { position } => put_added(*position, out),
+        Reply::Added { position } => put_position(b"add ", *position, out),
+        Reply::Deleted { position } => put_position(b"del ", *position, out),
         Reply::Viewed { place, front } => put_viewed(*place, *front, out),
         Reply::Neighbours { vertex, list } => put_neighbours(*vertex, list.as_slice(), out),
     }
@@ -62,11 +63,11 @@ fn put_heading_line(session: u32, out: &mut Vec<u8>) -> Result<(), AllocError>
     put_text(out, b"\n")
 }
 
-fn put_added(position: u64, out: &mut Vec<u8>) -> Result<(), AllocError>
-    ensures ok { OnOk result (out.new.items ≡ out.old.items ++ text_of (Reply.Added position)) }
+fn put_position(word: &[u8], position: u64, out: &mut Vec<u8>) -> Result<(), AllocError>
+    ensures ok { OnOk result (out.new.items ≡ out.old.items ++ as_line (word.now ++ decimal position)) }
     ensures err { OnErr result (StillBegins out.old.items out.new.items) }
 {
-    put_text(out, b"add ")?;
+    put_text(out, word)?;
     put_number(out, position)?;
     put_text(out, b"\n")
 }

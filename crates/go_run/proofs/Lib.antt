@@ -1,3 +1,9 @@
 -- The lemmas on runs of the program.
 mod ReadingLemmas
+mod ComeLemmas
+mod EndLemmas
+mod OutcomeLemmas
+mod RunningLemmas
+mod StepLemmas
 mod RunLemmas
+mod CompleteLemmas

@@ -4,3 +4,4 @@ pub mod Status
 pub mod Input
 pub mod Reading
 pub mod Ran
+pub mod Driving

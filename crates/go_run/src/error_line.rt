@@ -1,8 +1,9 @@
 // The line that tells on standard error how the program ended.
 ghost use Rattle.std.specs.Prelude.{◌≡◌, ◌++◌, OnOk};
-ghost use Rattle.go_run.specs.Status.{error_line, cause_of, script_cause, too_much_cause};
+ghost use Rattle.go_run.specs.Status.{error_line, cause_of, script_cause, too_much_cause, bad_word_of, no_log_cause, asked_cause, other_vertices_cause};
 
 use crate::status::Status;
+use go_blocks::BadKind;
 use go_text::{FaultKind, put_number, put_text};
 use std::alloc::AllocError;
 
@@ -31,6 +32,9 @@ fn put_cause(status: &Status, out: &mut Vec<u8>) -> Result<(), AllocError>
         Status::NoFile { name } => put_named(name.bytes(), b": not there", out),
         Status::TooMuch { counted, limit } => put_too_much(*counted, *limit, out),
         Status::ReadFault { name } => put_named(name.bytes(), b": read fault", out),
+        Status::NotALog { at, kind } => put_no_log(*at, *kind, out),
+        Status::OtherVertices { file, asked } => put_other_vertices(*file, *asked, out),
+        Status::DiskFault => put_text(out, b"disk fault"),
         Status::WriteFault => put_text(out, b"write fault"),
         Status::Memory => put_text(out, b"out of memory"),
     }
@@ -61,4 +65,44 @@ fn put_too_much(counted: u64, limit: u64, out: &mut Vec<u8>) -> Result<(), Alloc
     put_number(out, counted)?;
     put_text(out, b" of ")?;
     put_number(out, limit)
+}
+
+// Appends what is wrong with bytes that are no log file, and where.
+fn put_no_log(at: u64, kind: BadKind, out: &mut Vec<u8>) -> Result<(), AllocError>
+    ensures { OnOk result (out.new.items ≡ out.old.items ++ no_log_cause at kind) }
+{
+    put_text(out, b"not a log: ")?;
+    put_named(bad_word(kind).as_bytes(), b" at ", out)?;
+    put_number(out, at)
+}
+
+// The word for what is wrong with bytes that are no log file.
+fn bad_word(kind: BadKind) -> &'static str
+    ensures { result.now ≡ bad_word_of kind }
+{
+    match kind {
+        BadKind::Magic => "magic",
+        BadKind::Version => "version",
+        BadKind::Vertices => "vertices",
+        BadKind::Count => "count",
+        BadKind::Short => "short",
+        BadKind::Word => "word",
+    }
+}
+
+// Appends the numbers of vertices that a log has and that were asked for.
+fn put_other_vertices(file: u32, asked: u32, out: &mut Vec<u8>) -> Result<(), AllocError>
+    ensures { OnOk result (out.new.items ≡ out.old.items ++ other_vertices_cause file asked) }
+{
+    put_text(out, b"log has ")?;
+    put_number(out, u64::from(file))?;
+    put_asked(asked, out)
+}
+
+// Appends the number of vertices that was asked for.
+fn put_asked(asked: u32, out: &mut Vec<u8>) -> Result<(), AllocError>
+    ensures { OnOk result (out.new.items ≡ out.old.items ++ asked_cause asked) }
+{
+    put_text(out, b" vertices, asked ")?;
+    put_number(out, u64::from(asked))
 }

@@ -1,27 +1,37 @@
-//! The top call: words and named texts in, the text of replies and a status out.
+//! The top call: words, named texts and a disk in; the text of replies, the disk and a status out.
 //!
-//! `run` does all that the program does, over a shelf of texts and a sink of bytes that are handed in. Contracts see the words
-//! as lists of bytes, the shelf as the map from names to bytes and the sink as the bytes that it took, where they tell.
-//! A caller may rely on `Ran` of specs/Ran.antt, by cases on the status. At `Done` there is one log, the entries that the script
-//! adds in order, the replies to all commands are those that the walk of go_session allows over it, and the sink took just
-//! their text. Each refusal comes exactly where `input_of` of specs/Input.antt gives it, and leaves the sink untouched.
-//! Faults of the shelf and the sink are told only where their counts rose. `message` gives the line that tells a status.
-//! Left out: a log that is kept, other sessions, and all that the real folder and output do.
-//! docs/SCRIPT.md has the commands and the error lines, docs/DEFINITIONS.md the definitions.
+//! `run` does all that the program does, over a shelf of texts, a sink of bytes and a disk that are handed in. Contracts see the
+//! words as lists of bytes, the shelf as the map from names to bytes, the sink as the bytes that it took and the disk as what a
+//! crash may leave of it, where they tell.
+//! A caller may rely on `Ran` of specs/Ran.antt, by cases on the status. At `Done` there is one log, the old one and then what the
+//! script puts, the replies to all commands are those that the walk of go_session allows over it, the sink took just their text,
+//! and the disk has a file of it. At each moment a crash leaves a part of the log that has the old one. Each refusal comes exactly
+//! where the input or the bytes on the disk ask for it. Faults are told only where the counts rose. `message` gives the line that
+//! tells a status.
+//! Left out: other sessions and threads, and all that the real folder, output and file do.
+//! docs/SCRIPT.md has the commands and the error lines, docs/DEFINITIONS.md the definitions, docs/CRASH.md what a crash leaves.
 #![tactic(auto)]
 
+mod driving;
 mod error_line;
 mod input;
 mod limits;
+mod outcome;
 mod output;
+mod running;
 mod status;
 mod top;
 mod words;
 
 pub use error_line::message;
-pub use limits::{SCRIPT_BYTES, VERTICES};
+pub use limits::{LOG_ENTRIES, RING, SCRIPT_BYTES, SHARDS, VERTICES};
+pub use outcome::Outcome;
 pub use status::Status;
-pub use top::run;
+pub use top::{run, run_with};
 
+#[cfg(test)]
+mod disk_tests;
+#[cfg(test)]
+mod fixture;
 #[cfg(test)]
 mod tests;

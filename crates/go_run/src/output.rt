@@ -1,25 +1,20 @@
-// Answering a script that was read.
-ghost use Rattle.std.specs.Prelude.{◌≡◌, ◌≤◌, IfOk};
+// Writing the replies of a session.
+ghost use Rattle.std.specs.Prelude.{◌≡◌, ◌≤◌, Some, None, IfOk};
 ghost use Rattle.go_text.specs.Causes.{Rose};
-ghost use Rattle.go_script.specs.Places.{IsWithin, commands_of};
-ghost use Rattle.go_run.specs.Ran.{IsTextFor, RepliesTo};
-ghost use Rattle.go_run.specs.declared.limits.TheConstants.{VERTICES};
+ghost use Rattle.go_run.specs.Driving.{text_shown, PrintsAll, PrintsCut};
 
-use crate::limits::VERTICES;
 use crate::status::Status;
 use go_io::{Sink, put_all};
-use go_script::Script;
-use go_session::{answers, write};
+use go_session::Session;
 use std::alloc::{AllocError, Global};
 
-/// Answers each command of a script, and puts the replies into the sink in one piece.
-pub fn reply<K: Sink>(alloc: Global, script: &Script, sink: &mut K) -> Status
-    requires { IsWithin VERTICES (commands_of script.now) }
-    ensures replies { RepliesTo (commands_of script.now) (K.taken sink.old) (K.taken sink.new) result }
+/// Puts all replies into the sink, in one piece.
+pub fn print_all<K: Sink>(alloc: Global, session: &Session, sink: &mut K) -> Status
+    ensures prints { PrintsAll session.now (K.taken sink.old) (K.taken sink.new) result }
     ensures later { K.faults sink.old ≤ K.faults sink.new }
     ensures fault { result ≡ Status.WriteFault → Rose (K.faults sink.old) (K.faults sink.new) }
 {
-    let Ok(text) = text_of_replies(alloc, script) else {
+    let Ok(text) = text_shown(alloc, session, None) else {
         return Status::Memory;
     };
     match put_all(sink, &text) {
@@ -28,13 +23,24 @@ pub fn reply<K: Sink>(alloc: Global, script: &Script, sink: &mut K) -> Status
     }
 }
 
-// The text of the one session with its replies.
-fn text_of_replies(alloc: Global, script: &Script) -> Result<Vec<u8>, AllocError>
-    requires { IsWithin VERTICES (commands_of script.now) }
-    ensures { IfOk result (λ text. IsTextFor (commands_of script.now) text.items) }
+/// After a fault of the disk, puts the replies into the sink that rest on durable entries alone. The status is that of
+/// the disk, whether the sink takes them or not.
+pub fn print_cut<K: Sink>(alloc: Global, session: &Session, durable: u64, sink: &mut K) -> Status
+    ensures prints { PrintsCut session.now durable (K.taken sink.old) (K.taken sink.new) (K.faults sink.old) (K.faults sink.new) result }
+    ensures later { K.faults sink.old ≤ K.faults sink.new }
 {
-    let replies = answers(alloc, script, VERTICES)?;
+    let Ok(text) = text_shown(alloc, session, Some(durable)) else {
+        return Status::Memory;
+    };
+    let _ = put_all(sink, &text);
+    Status::DiskFault
+}
+
+// The text of a session, cut at a front where one is given.
+fn text_shown(alloc: Global, session: &Session, durable: Option<u64>) -> Result<Vec<u8>, AllocError>
+    ensures { IfOk result (λ text. text.items ≡ text_shown session.now durable) }
+{
     let mut text = Vec::new(alloc);
-    write(1, &replies, &mut text)?;
+    session.write(durable, &mut text)?;
     Ok(text)
 }

@@ -1,5 +1,6 @@
 // How the program ends.
 
+use go_blocks::BadKind;
 use go_text::{FaultKind, Text};
 
 /// How the program ended. The exit status of the process is `number`.
@@ -28,6 +29,18 @@ pub enum Status {
     ReadFault {
         name: Text,
     },
+    /// The disk has neither a log file nor one that isn't made yet: the first place that offends, and what is wrong there.
+    NotALog {
+        at: u64,
+        kind: BadKind,
+    },
+    /// The log file is one of another number of vertices than was asked for.
+    OtherVertices {
+        file: u32,
+        asked: u32,
+    },
+    /// The disk failed. What it then has is what opening it again gives.
+    DiskFault,
     /// Writing the replies failed; the first bytes of their text were written.
     WriteFault,
     /// There was no memory.
@@ -49,6 +62,9 @@ impl Status {
             Status::NoFile { .. } => 3,
             Status::TooMuch { .. } => 4,
             Status::ReadFault { .. } => 5,
+            Status::NotALog { .. } => 6,
+            Status::OtherVertices { .. } => 7,
+            Status::DiskFault => 8,
             Status::WriteFault => 9,
             Status::Memory => 10,
         }

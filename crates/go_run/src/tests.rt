@@ -1,59 +1,9 @@
 // Whole runs over a shelf and a sink in memory, at rows that were worked out by hand.
 
-use super::*;
-use go_io::{MemShelf, MemSink};
-use go_text::Text;
-use std::alloc::{AllocError, Global};
+use crate::fixture::{outcome_of, run_over, shelf_with};
+use crate::{Status, message};
+use go_io::MemSink;
 use std::test::Fail;
-
-// What a run comes to: its status, as a number and its line, and what the sink has.
-#[derive(Drop)]
-struct Outcome {
-    number: u8,
-    line: Vec<u8>,
-    sink: MemSink,
-}
-
-// The words of a command line.
-fn words_of(alloc: Global, words: &[&str]) -> Result<Vec<Text>, AllocError> {
-    let mut list = Vec::new(alloc);
-    for word in words {
-        list.push(Text::of(alloc, word)?)?;
-    }
-    Ok(list)
-}
-
-// A shelf with one text, `a.gs`.
-fn shelf_with(alloc: Global, script: &[u8]) -> Result<MemShelf, AllocError> {
-    let mut shelf = MemShelf::new(alloc);
-    shelf.add(&Text::of(alloc, "a.gs")?, script)?;
-    Ok(shelf)
-}
-
-// A run over these.
-fn run_over(
-    alloc: Global,
-    words: &[&str],
-    mut shelf: MemShelf,
-    mut sink: MemSink,
-) -> Result<Outcome, AllocError> {
-    let words = words_of(alloc, words)?;
-    let status = run(alloc, &words, &mut shelf, &mut sink);
-    let mut line = Vec::new(alloc);
-    message(&status, &mut line)?;
-    Ok(Outcome {
-        number: status.number(),
-        line,
-        sink,
-    })
-}
-
-// A run of one script, with ample room.
-fn outcome_of(alloc: Global, script: &[u8]) -> Result<Outcome, AllocError> {
-    let shelf = shelf_with(alloc, script)?;
-    let sink = MemSink::new(alloc, 4096, 4096)?;
-    run_over(alloc, &["drive", "a.gs"], shelf, sink)
-}
 
 #[test]
 fn valid_scripts_are_answered(rt: HostRuntime) -> Result<(), Fail> {
@@ -75,7 +25,7 @@ fn valid_scripts_are_answered(rt: HostRuntime) -> Result<(), Fail> {
         ),
     ];
     for (script, want) in cases {
-        let outcome = outcome_of(rt.alloc(), script)?;
+        let outcome = outcome_of(&rt, rt.alloc(), script)?;
         assert_eq!(rt; outcome.number, 0);
         assert_eq!(rt; outcome.line.as_slice(), b"".as_slice());
         assert_eq!(rt; outcome.sink.bytes(), want);
@@ -91,7 +41,7 @@ fn first_fault_of_a_script_is_told(rt: HostRuntime) -> Result<(), Fail> {
         (b"add 1\n", b"graphone: a.gs: line 1: count\n"),
         (b"add 1 2 3\n", b"graphone: a.gs: line 1: count\n"),
         (b"fly\n", b"graphone: a.gs: line 1: word\n"),
-        (b"del 1 2\n", b"graphone: a.gs: line 1: word\n"),
+        (b"del 1 2 3\n", b"graphone: a.gs: line 1: count\n"),
         (b"add 1 x\n", b"graphone: a.gs: line 1: number\n"),
         (
             b"add 18446744073709551616 0\n",
@@ -115,7 +65,7 @@ fn first_fault_of_a_script_is_told(rt: HostRuntime) -> Result<(), Fail> {
         ),
     ];
     for (script, want) in cases {
-        let outcome = outcome_of(rt.alloc(), script)?;
+        let outcome = outcome_of(&rt, rt.alloc(), script)?;
         assert_eq!(rt; outcome.number, 2);
         assert_eq!(rt; outcome.line.as_slice(), want);
         assert_eq!(rt; outcome.sink.bytes(), b"".as_slice());
@@ -137,7 +87,7 @@ fn other_words_are_refused(rt: HostRuntime) -> Result<(), Fail> {
     let alloc = rt.alloc();
     for words in cases {
         let shelf = shelf_with(alloc, b"")?;
-        let outcome = run_over(alloc, words, shelf, MemSink::new(alloc, 9, 99)?)?;
+        let outcome = run_over(&rt, rt.alloc(), words, shelf, MemSink::new(alloc, 9, 99)?)?;
         assert_eq!(rt; outcome.number, 1);
         assert_eq!(rt;
             outcome.line.as_slice(),
@@ -152,7 +102,13 @@ fn other_words_are_refused(rt: HostRuntime) -> Result<(), Fail> {
 fn script_that_is_not_read_is_told(rt: HostRuntime) -> Result<(), Fail> {
     let alloc = rt.alloc();
     let sink = MemSink::new(alloc, 9, 99)?;
-    let missing = run_over(alloc, &["drive", "b.gs"], shelf_with(alloc, b"")?, sink)?;
+    let missing = run_over(
+        &rt,
+        rt.alloc(),
+        &["drive", "b.gs"],
+        shelf_with(alloc, b"")?,
+        sink,
+    )?;
     assert_eq!(rt; missing.number, 3);
     assert_eq!(rt;
         missing.line.as_slice(),
@@ -161,7 +117,7 @@ fn script_that_is_not_read_is_told(rt: HostRuntime) -> Result<(), Fail> {
     let mut shelf = shelf_with(alloc, b"")?;
     shelf.fail(0)?;
     let sink = MemSink::new(alloc, 9, 99)?;
-    let failed = run_over(alloc, &["drive", "a.gs"], shelf, sink)?;
+    let failed = run_over(&rt, rt.alloc(), &["drive", "a.gs"], shelf, sink)?;
     assert_eq!(rt; failed.number, 5);
     assert_eq!(rt;
         failed.line.as_slice(),
@@ -177,7 +133,8 @@ fn script_of_one_byte_too_many_is_too_much(rt: HostRuntime) -> Result<(), Fail> 
     let long = vec![in alloc; b'\n'; 67_108_865]?;
     let shelf = shelf_with(alloc, &long)?;
     let outcome = run_over(
-        alloc,
+        &rt,
+        rt.alloc(),
         &["drive", "a.gs"],
         shelf,
         MemSink::new(alloc, 9, 99)?,
@@ -205,7 +162,7 @@ fn sink_gets_all_or_the_first_bytes(rt: HostRuntime) -> Result<(), Fail> {
     for (take, room, number, want) in cases {
         let shelf = shelf_with(alloc, b"add 3 5\nview 0\nneigh 0 3\n")?;
         let sink = MemSink::new(alloc, take, room)?;
-        let outcome = run_over(alloc, &["drive", "a.gs"], shelf, sink)?;
+        let outcome = run_over(&rt, rt.alloc(), &["drive", "a.gs"], shelf, sink)?;
         assert_eq!(rt; outcome.number, number);
         assert_eq!(rt; outcome.sink.bytes(), want);
     }

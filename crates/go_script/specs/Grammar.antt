@@ -6,7 +6,8 @@ use Rattle.go_text.specs.Word.{words}
 use Rattle.go_text.specs.declared.faults.FaultKind.{FaultKind}
 use Rattle.go_text.specs.declared.faults.FaultKind.TheVariants.{Word, Count, Place}
 use Rattle.go_script.specs.declared.command.Command.{Command}
-use Rattle.go_script.specs.declared.command.Command.TheVariants.{Add, View, Neigh}
+use Rattle.go_script.specs.declared.command.Command.TheVariants.{Add, Del, View, Neigh}
+use Rattle.go_script.specs.declared.line.Ends.{Ends}
 use Rattle.go_script.specs.declared.step.Step.{Step}
 use Rattle.go_script.specs.declared.fault.ScriptFault.{ScriptFault}
 use Rattle.go_script.specs.declared.fault.ScriptFault.TheVariants.{Line, Memory}
@@ -19,10 +20,18 @@ abbrev pub is_skipped : List (List ℕ) → Bool
 is_skipped [] = true
 is_skipped (word ∷ arguments) = slice_index word 0 == 35
 
--- `add` has two vertices, each below v
+-- the vertices of an edge, each below v
+abbrev pub ends_of : ℕ → List (List ℕ) → Result Ends FaultKind
+ends_of v (src ∷ dst ∷ []) = vertex_in v src >>= λ s. vertex_in v dst >>= λ d. Ok (record { src = s; dst = d })
+ends_of v _ = Err Count
+
+-- `add` has the two vertices of the edge
 abbrev pub add_of : ℕ → List (List ℕ) → Result Command FaultKind
-add_of v (src ∷ dst ∷ []) = vertex_in v src >>= λ s. vertex_in v dst >>= λ d. Ok (Add s d)
-add_of v _ = Err Count
+add_of v arguments = ends_of v arguments >>= λ ends. Ok (Add ends.src ends.dst)
+
+-- `del` has them too
+abbrev pub del_of : ℕ → List (List ℕ) → Result Command FaultKind
+del_of v arguments = ends_of v arguments >>= λ ends. Ok (Del ends.src ends.dst)
 
 -- `view` has a place, 0 to 3
 abbrev pub view_of : List (List ℕ) → Result Command FaultKind
@@ -38,9 +47,10 @@ neigh_of v _ = Err Count
 abbrev pub asked_of : ℕ → List ℕ → List (List ℕ) → Result Command FaultKind
 asked_of v word arguments =
     if bytes_eq word (codes "add") then add_of v arguments
+    else (if bytes_eq word (codes "del") then del_of v arguments
     else (if bytes_eq word (codes "view") then view_of arguments
     else (if bytes_eq word (codes "neigh") then neigh_of v arguments
-    else Err Word))
+    else Err Word)))
 
 -- the command that the words of a line write: the first one names it, the others are its arguments
 abbrev pub command_of : ℕ → List (List ℕ) → Result Command FaultKind

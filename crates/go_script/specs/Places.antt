@@ -1,12 +1,13 @@
 -- The places at which a session keeps its views: what each command needs of its place, and what it leaves there.
 use Rattle.std.specs.Prelude.{◌≡◌, ℕ, ◌<◌, ◌==◌, Bool, true, false, not, ◌||◌, List, fold, map, take, slice_get, Some}
 use Rattle.go_script.specs.declared.command.Command.{Command}
-use Rattle.go_script.specs.declared.command.Command.TheVariants.{Add, View, Neigh}
+use Rattle.go_script.specs.declared.command.Command.TheVariants.{Add, Del, View, Neigh}
 use Rattle.go_script.specs.declared.step.Step.{Step}
 
 -- whether the place k holds a view after a command, by whether it did before
 abbrev pub view_after : ℕ → Bool → Command → Bool
 view_after k held (Add src dst) = held
+view_after k held (Del src dst) = held
 view_after k held (View place) = held || (place == k)
 view_after k held (Neigh place vertex) = held
 
@@ -17,6 +18,7 @@ holds_view k commands = fold (view_after k) false commands
 -- a command finds its place as it needs it after the commands before it: a new view a free one, a reader of a view one that holds a view
 abbrev pub finds_place : List Command → Command → Bool
 finds_place before (Add src dst) = true
+finds_place before (Del src dst) = true
 finds_place before (View place) = not (holds_view place before)
 finds_place before (Neigh place vertex) = holds_view place before
 
@@ -27,6 +29,7 @@ commands_of steps = map (λ step. step.command) steps
 -- the place that a command names, where it names one, is one of the four
 abbrev pub NamesPlace : Command → Type 0
 NamesPlace (Add src dst) = Unit {0}
+NamesPlace (Del src dst) = Unit {0}
 NamesPlace (View place) = place < 4
 NamesPlace (Neigh place vertex) = place < 4
 
@@ -42,6 +45,7 @@ pub record IsScript (commands : List Command) : Type 0 where
 -- the vertices that a command names are below v
 abbrev pub NamesBelow : ℕ → Command → Type 0
 NamesBelow v (Add src dst) = (src < v) × (dst < v)
+NamesBelow v (Del src dst) = (src < v) × (dst < v)
 NamesBelow v (View place) = Unit {0}
 NamesBelow v (Neigh place vertex) = vertex < v
 

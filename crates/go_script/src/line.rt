@@ -1,8 +1,8 @@
 // A line of a script, read as a command.
-ghost use Rattle.std.specs.Prelude.{◌≡◌, List, IfOk, IfSome};
+ghost use Rattle.std.specs.Prelude.{◌≡◌, ◌<◌, List, IfOk, IfSome};
 ghost use Rattle.go_text.specs.Word.{words};
 ghost use Rattle.go_script.specs.declared.command.Command.{Command as AnyCommand};
-ghost use Rattle.go_script.specs.Grammar.{is_skipped, add_of, view_of, neigh_of, command_of, line_of};
+ghost use Rattle.go_script.specs.Grammar.{is_skipped, ends_of, add_of, del_of, view_of, neigh_of, command_of, line_of};
 ghost use Rattle.go_script.specs.Held.{Tells};
 ghost use Rattle.go_script.specs.Places.{NamesPlace, NamesBelow};
 ghost use Rattle.go_script.specs.Texts.{texts};
@@ -12,6 +12,13 @@ use crate::command::Command;
 use crate::places::Places;
 use crate::words::words_of;
 use go_text::FaultKind;
+
+// The vertices at which an edge begins and ends.
+#[derive(Clone, Copy)]
+pub struct Ends {
+    pub src: u32,
+    pub dst: u32,
+}
 
 // What a line writes after the commands that a table of the places tells of: nothing where it is skipped, else a command.
 pub fn read_line(line: &[u8], vertices: u32, places: &Places) -> Result<Option<Command>, FaultKind>
@@ -61,6 +68,8 @@ fn read_command(words: &[&[u8]], vertices: u32) -> Result<Command, FaultKind>
     };
     if *word == b"add".as_slice() {
         read_add(arguments, vertices)
+    } else if *word == b"del".as_slice() {
+        read_del(arguments, vertices)
     } else if *word == b"view".as_slice() {
         read_view(arguments)
     } else if *word == b"neigh".as_slice() {
@@ -76,12 +85,37 @@ fn read_add(arguments: &[&[u8]], vertices: u32) -> Result<Command, FaultKind>
     ensures place { IfOk result NamesPlace }
     ensures below { IfOk result (NamesBelow vertices) }
 {
+    let ends = read_ends(arguments, vertices)?;
+    Ok(Command::Add {
+        src: ends.src,
+        dst: ends.dst,
+    })
+}
+
+// `del` with two vertices.
+fn read_del(arguments: &[&[u8]], vertices: u32) -> Result<Command, FaultKind>
+    ensures exact { result ≡ del_of vertices (texts arguments.now) }
+    ensures place { IfOk result NamesPlace }
+    ensures below { IfOk result (NamesBelow vertices) }
+{
+    let ends = read_ends(arguments, vertices)?;
+    Ok(Command::Del {
+        src: ends.src,
+        dst: ends.dst,
+    })
+}
+
+// Two vertices.
+fn read_ends(arguments: &[&[u8]], vertices: u32) -> Result<Ends, FaultKind>
+    ensures exact { result ≡ ends_of vertices (texts arguments.now) }
+    ensures below { IfOk result (λ ends. (ends.src < vertices) × (ends.dst < vertices)) }
+{
     let [src, dst] = arguments else {
         return Err(FaultKind::Count);
     };
     let src = read_vertex(src, vertices)?;
     let dst = read_vertex(dst, vertices)?;
-    Ok(Command::Add { src, dst })
+    Ok(Ends { src, dst })
 }
 
 // `view` with a place.

@@ -26,7 +26,7 @@ impl Places {
         ensures { (before : List AnyCommand) → Tells self.now before → result ≡ finds_place before command.now }
     {
         match *command {
-            Command::Add { .. } => true,
+            Command::Add { .. } | Command::Del { .. } => true,
             Command::View { place } => !self.held[place as usize],
             Command::Neigh { place, .. } => self.held[place as usize],
         }

@@ -8,6 +8,10 @@ fn add(src: u32, dst: u32) -> Command {
     Command::Add { src, dst }
 }
 
+fn del(src: u32, dst: u32) -> Command {
+    Command::Del { src, dst }
+}
+
 fn view(place: u8) -> Command {
     Command::View { place }
 }
@@ -23,6 +27,7 @@ fn scripts_are_read_with_their_lines(rt: HostRuntime) -> Result<(), Fail> {
         (b"".as_slice(), [].as_slice()),
         (b"\r\n \t\n#fly", [].as_slice()),
         (b"add 65535 0", [(1, add(65535, 0))].as_slice()),
+        (b"del 0 65535\n", [(1, del(0, 65535))].as_slice()),
         (
             spread,
             [(2, add(3, 5)), (4, view(0)), (6, neigh(0, 3))].as_slice(),
@@ -55,6 +60,9 @@ fn the_first_fault_of_the_first_faulty_line_is_told(rt: HostRuntime) {
         (b"add 65536 0".as_slice(), 1, FaultKind::Vertex),
         (b"view 0\nview 0", 2, FaultKind::Place),
         (b"add 1", 1, FaultKind::Count),
+        (b"del 1", 1, FaultKind::Count),
+        (b"del 1 x", 1, FaultKind::Number),
+        (b"dele 1 2", 1, FaultKind::Word),
         (b"fly", 1, FaultKind::Word),
         (b"add 1 x", 1, FaultKind::Number),
         (b"add 18446744073709551616 0", 1, FaultKind::Number),

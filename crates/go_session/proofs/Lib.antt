@@ -1,4 +1,10 @@
 -- The lemmas on sessions.
-mod IndexLemmas
-mod ProgressLemmas
-mod WritingLemmas
+pub mod ListLemmas
+pub mod WalkLemmas
+pub mod StepLemmas
+pub mod CutLemmas
+pub mod CutWalks
+pub mod CutKeeps
+pub mod BeginLemmas
+pub mod ListedLemmas
+pub mod WritingLemmas

@@ -1,6 +1,6 @@
 -- The definitions of sessions.
 pub mod Puts
 pub mod Walk
-pub mod Index
-pub mod Answers
-pub mod Progress
+pub mod Cut
+pub mod Session
+pub mod Listed

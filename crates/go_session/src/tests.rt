@@ -1,17 +1,34 @@
-// Whole sessions at rows that were worked out by hand.
+// Whole sessions over a list as a store, at rows that were worked out by hand.
 
-use super::*;
+use crate::list_store::ListStore;
+use crate::{Session, Step, entries_in};
+use go_io::NoGate;
 use go_script::parse;
-use std::alloc::{AllocError, Global};
+use std::alloc::Global;
+use std::process::Abort;
 use std::test::Fail;
 
-// The text of session 1 for a script over 8 vertices; none where it is no script.
-fn text_for(alloc: Global, script: &[u8]) -> Result<Vec<u8>, AllocError> {
-    let mut text = Vec::new(alloc);
-    if let Ok(script) = parse(alloc, script, 8) {
-        let replies = answers(alloc, &script, 8)?;
-        write(1, &replies, &mut text)?;
+// A session that has answered all commands of a script over 8 vertices.
+fn answered(rt: &impl Abort, alloc: Global, script: &[u8]) -> Result<Session, Fail> {
+    let script = parse(alloc, script, 8)?;
+    let mut session = Session::new(alloc, 1, script)?;
+    let quota = session.puts();
+    assert!(rt; quota < 100);
+    let mut store = ListStore::new(alloc, quota);
+    for _ in 0..100 {
+        match session.step(&mut store, &NoGate) {
+            Step::Did => {}
+            Step::Ended => return Ok(session),
+            Step::Stopped { why: _ } => return Err(Fail::new("stopped")),
+        }
     }
+    Err(Fail::new("too long"))
+}
+
+// The text of a session, cut at a front where one is given.
+fn text_of(session: &Session, alloc: Global, durable: Option<u64>) -> Result<Vec<u8>, Fail> {
+    let mut text = Vec::new(alloc);
+    session.write(durable, &mut text)?;
     Ok(text)
 }
 
@@ -28,21 +45,49 @@ fn replies_are_those_of_the_rows(rt: HostRuntime) -> Result<(), Fail> {
             b"session 1\nadd 0\nview 0 at 1\nadd 1\nneigh 1: 2\n",
         ),
         (
+            b"add 1 2\nadd 1 2\nadd 1 3\ndel 1 2\nview 0\nneigh 0 1\n",
+            b"session 1\nadd 0\nadd 1\nadd 2\ndel 3\nview 0 at 4\nneigh 1: 2 3\n",
+        ),
+        (
+            b"del 1 2\nadd 1 2\nview 0\nneigh 0 1\n",
+            b"session 1\ndel 0\nadd 1\nview 0 at 2\nneigh 1: 2\n",
+        ),
+        (
             b"view 2\nadd 7 7\nview 1\nneigh 2 7\nneigh 1 7\n",
             b"session 1\nview 2 at 0\nadd 0\nview 1 at 1\nneigh 7:\nneigh 7: 7\n",
         ),
-        (
-            b"add 1 2\nadd 0 4\nadd 1 2\nadd 1 0\nview 3\nneigh 3 1\nneigh 3 2\n",
-            b"session 1\nadd 0\nadd 1\nadd 2\nadd 3\nview 3 at 4\nneigh 1: 2 2 0\nneigh 2:\n",
-        ),
-        (
-            b"add 0 1\nview 0\nadd 0 2\nview 1\nadd 0 3\nneigh 1 0\nneigh 0 0\n",
-            b"session 1\nadd 0\nview 0 at 1\nadd 1\nview 1 at 2\nadd 2\nneigh 0: 1 2\nneigh 0: 1\n",
-        ),
     ];
     for (script, want) in cases {
-        let text = text_for(rt.alloc(), script)?;
+        let session = answered(&rt, rt.alloc(), script)?;
+        assert_eq!(rt; text_of(&session, rt.alloc(), None)?.as_slice(), want);
+    }
+    Ok(())
+}
+
+#[test]
+fn replies_are_cut_at_the_first_that_rests_on_more(rt: HostRuntime) -> Result<(), Fail> {
+    let script = b"add 1 2\nview 0\nadd 1 3\nneigh 0 1\nview 1\nneigh 1 1\n".as_slice();
+    let session = answered(&rt, rt.alloc(), script)?;
+    for (durable, want) in [
+        (0, b"session 1\n".as_slice()),
+        (1, b"session 1\nadd 0\nview 0 at 1\n"),
+        (
+            2,
+            b"session 1\nadd 0\nview 0 at 1\nadd 1\nneigh 1: 2\nview 1 at 2\nneigh 1: 2 3\n",
+        ),
+    ] {
+        let text = text_of(&session, rt.alloc(), Some(durable))?;
         assert_eq!(rt; text.as_slice(), want);
+    }
+    Ok(())
+}
+
+#[test]
+fn additions_and_deletions_are_counted(rt: HostRuntime) -> Result<(), Fail> {
+    let script = parse(rt.alloc(), b"add 1 2\nview 0\ndel 1 2\nneigh 0 1\n", 8)?;
+    assert_eq!(rt; script.len(), 4);
+    for (from, want) in [(0, 2), (1, 1), (2, 1), (3, 0), (4, 0)] {
+        assert_eq!(rt; entries_in(&script, from), want);
     }
     Ok(())
 }

@@ -7,10 +7,10 @@ use std::alloc::AllocError;
 
 /// Appends the text of a session: its heading, by its number from 1, and its replies.
 /// After want of memory nothing is claimed of `out`.
-pub fn write(number: u32, replies: &[Reply], out: &mut Vec<u8>) -> Result<(), AllocError>
+pub fn write(number: u8, replies: &[Reply], out: &mut Vec<u8>) -> Result<(), AllocError>
     ensures { OnOk result (out.new.items ≡ out.old.items ++ text_of_session number replies.now) }
 {
-    put_heading(number, out)?;
+    put_heading(number as u32, out)?;
     for reply in replies {
         render(reply, out)?;
     }

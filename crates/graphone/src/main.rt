@@ -1,24 +1,35 @@
 //! The program `graphone`: collects the words, makes the adapters of the outside, and hands them to the top call.
 #![tactic(auto)]
 
-use go_io::{FolderShelf, StdSink};
-use go_run::{Status, message, run};
+use go_disk::FileDisk;
+use go_io::{FolderShelf, NoGate, StdSink};
+use go_run::{Outcome, Status, message, run};
 use go_text::Text;
 use std::alloc::{AllocError, Global};
 use std::env;
 use std::io::{ErrorKind, Write};
 use std::process::ExitCode;
 
+// The file in the caller's folder that keeps the log.
+const LOG_FILE: &str = "graph.log";
+
 fn main(rt: HostRuntime) -> ExitCode {
     let alloc = rt.alloc();
-    let status = match collect_words(&rt, alloc) {
-        Ok(words) => run(
-            alloc,
-            &words,
-            &mut FolderShelf::new(&rt),
-            &mut StdSink::new(&rt),
-        ),
-        Err(status) => status,
+    let status = match (collect_words(&rt, alloc), Text::of(alloc, LOG_FILE)) {
+        (Ok(words), Ok(name)) => {
+            let Outcome { status, disk: _ } = run(
+                &rt,
+                alloc,
+                &words,
+                &mut FolderShelf::new(&rt),
+                &mut StdSink::new(&rt),
+                FileDisk::named(&rt, name),
+                &NoGate,
+            );
+            status
+        }
+        (Err(status), _) => status,
+        (Ok(_), Err(_)) => Status::Memory,
     };
     tell(&rt, alloc, &status);
     ExitCode::from(status.number())

@@ -1,0 +1,93 @@
+// Making a store over a log that was opened.
+ghost use Rattle.std.specs.Prelude.{◌≡◌, ◌+◌, ◌<◌, ◌≤◌, ◌^◌, [], List, All, length, slice_index, IfOk, MatchResult};
+ghost use Rattle.go_word.specs.declared.edge.Edge.{Edge as Entry};
+ghost use Rattle.go_word.specs.Log.{IsWithin};
+ghost use Rattle.go_api.specs.Limits.{IsSetup};
+ghost use Rattle.go_plain.specs.Plain.{made_of};
+ghost use Rattle.go_plain.specs.Shards.{HaveParts};
+
+use crate::journal::Journal;
+use crate::ring::Ring;
+use crate::shards::catch_up;
+use crate::store::PlainStore;
+use go_api::{Place, Setup};
+use go_disk::Disk;
+use go_durable::Opened;
+use go_shard::Shard;
+use go_word::Edge;
+use std::alloc::{AllocError, Global};
+use std::snapshot::Snapshot;
+
+/// The disk of a store that wasn't made for want of memory.
+#[derive(Drop)]
+pub struct Unmade<D> {
+    pub disk: D,
+}
+
+impl<D: Disk> PlainStore<D> {
+    /// A store over a log that was opened, for one session that may put so many entries.
+    ///
+    /// The refusal is want of memory, and hands the disk back.
+    pub fn new(
+        alloc: Global,
+        opened: Opened<D>,
+        setup: Setup,
+        quotas: &[u64],
+    ) -> Result<PlainStore<D>, Unmade<D>>
+        requires setup { IsSetup setup }
+        requires vertices { opened.log.vertices ≡ setup.vertices }
+        requires one { length quotas.now ≡ 1 }
+        requires room { length opened.edges + slice_index quotas.now 0 ≤ 2 ^ 26 }
+        ensures { MatchResult result (λ store. store ≡ made_of opened setup (slice_index quotas.now 0)) (λ unmade. unmade.disk ≡ opened.log.disk) }
+    {
+        let Opened { log, edges } = opened;
+        let Ok(shards) = make_shards(alloc, setup, &edges) else {
+            return Err(Unmade {
+                disk: log.into_disk(),
+            });
+        };
+        let Ok(ring) = Ring::new(alloc, setup.ring as u32, setup.vertices) else {
+            return Err(Unmade {
+                disk: log.into_disk(),
+            });
+        };
+        Ok(PlainStore {
+            alloc,
+            vertices: setup.vertices,
+            first: edges.len() as u64,
+            opened: Snapshot::of(&log),
+            found: Snapshot::of(&edges),
+            past: Vec::new(alloc),
+            moved: edges.len() as u64,
+            shards,
+            ring,
+            journal: Some(Journal::Sound { log }),
+            quota: quotas[0],
+            places: [Place::Free; 4],
+        })
+    }
+}
+
+// The shards of a store, with all entries of a log.
+fn make_shards(alloc: Global, setup: Setup, edges: &[Edge]) -> Result<Vec<Shard>, AllocError>
+    requires setup { IsSetup setup }
+    requires ids { All (IsWithin setup.vertices) edges.now }
+    requires small { length edges.now < 2 ^ 32 }
+    ensures { IfOk result (λ shards. HaveParts setup.vertices (length shards.items) (length edges.now) [] edges.now shards.items) }
+{
+    let mut shards = empty_shards(alloc, setup)?;
+    catch_up(alloc, &mut shards, edges, 0, &[Place::Free; 4])?;
+    Ok(shards)
+}
+
+// The shards of a store without entries.
+fn empty_shards(alloc: Global, setup: Setup) -> Result<Vec<Shard>, AllocError>
+    requires { IsSetup setup }
+    ensures { IfOk result (λ shards. (log : List Entry) → HaveParts setup.vertices setup.shards 0 [] log shards.items) }
+{
+    let mut shards = Vec::with_capacity(alloc, setup.shards as usize)?;
+    for i in 0..setup.shards {
+        shards.push(Shard::new(alloc, i, setup.shards, setup.vertices)?)?;
+    }
+    Ok(shards)
+}

@@ -1,0 +1,144 @@
+// Rows of a ring, a split and a small store, worked out by hand.
+ghost use Rattle.std.specs.Prelude.{◌≡◌, ◌≤◌, ◌^◌, ◌∷◌, [], true, false, IfSome};
+ghost use Rattle.go_api.specs.declared.place.Place.TheVariants.{Free};
+
+use crate::PlainStore;
+use crate::ring::Ring;
+use crate::split::split;
+use go_api::{Setup, Store};
+use go_disk::MemDisk;
+use go_durable::attach;
+use go_word::Edge;
+use std::alloc::Global;
+use std::test::Fail;
+
+fn add(src: u32, dst: u32) -> Edge
+    ensures { result ≡ record { del = false; src = src; dst = dst } }
+{
+    Edge {
+        del: false,
+        src,
+        dst,
+    }
+}
+
+fn del(src: u32, dst: u32) -> Edge
+    ensures { result ≡ record { del = true; src = src; dst = dst } }
+{
+    Edge {
+        del: true,
+        src,
+        dst,
+    }
+}
+
+#[test]
+fn words_of_one_vertex_in_the_order_of_their_arrival(rt: HostRuntime) -> Result<(), Fail> {
+    let mut ring = Ring::new(rt.alloc(), 4, 3)?;
+    ring.push(add(1, 2));
+    ring.push(add(0, 1));
+    ring.push(del(1, 2));
+    assert_eq!(rt; ring.is_full(), false);
+    ring.push(add(1, 0));
+    assert_eq!(rt; ring.is_full(), true);
+    assert_eq!(rt; ring.len(), 4);
+    let mut words = [9].to_vec(rt.alloc())?;
+    for (vertex, count, want) in [
+        (
+            1,
+            4,
+            [0x8000_0002, 0x8000_0000_8000_0002, 0x8000_0000].as_slice(),
+        ),
+        (1, 3, [0x8000_0002, 0x8000_0000_8000_0002].as_slice()),
+        (1, 2, [0x8000_0002].as_slice()),
+        (1, 0, [].as_slice()),
+        (0, 4, [1].as_slice()),
+        (2, 4, [].as_slice()),
+    ] {
+        ring.words_from(vertex, count, &mut words)?;
+        assert_eq!(rt;
+            words.as_slice(),
+            want,
+            "words of {vertex} in the first {count}"
+        );
+    }
+    Ok(())
+}
+
+#[test]
+fn a_cleared_ring_has_only_what_comes_after(rt: HostRuntime) -> Result<(), Fail> {
+    let mut ring = Ring::new(rt.alloc(), 1, 2)?;
+    ring.push(add(1, 0));
+    ring.clear();
+    assert_eq!(rt; ring.len(), 0);
+    ring.push(add(1, 1));
+    let mut words = Vec::new(rt.alloc());
+    ring.words_from(1, 1, &mut words)?;
+    assert_eq!(rt; words.as_slice(), [0x8000_0001].as_slice());
+    assert_eq!(rt; ring.entries(), [add(1, 1)].as_slice());
+    Ok(())
+}
+
+#[test]
+fn each_shard_has_the_entries_of_its_sources(rt: HostRuntime) -> Result<(), Fail> {
+    let edges = [add(0, 1), add(1, 0), add(2, 3), del(1, 0)];
+    let lists = split(rt.alloc(), &edges, 3)?;
+    assert_eq!(rt; lists.len(), 3);
+    assert_eq!(rt; lists[0].as_slice(), [add(0, 1)].as_slice());
+    assert_eq!(rt; lists[1].as_slice(), [add(1, 0), del(1, 0)].as_slice());
+    assert_eq!(rt; lists[2].as_slice(), [add(2, 3)].as_slice());
+    Ok(())
+}
+
+// A store over a disk, of 8 vertices and two shards, with a ring of one slot; for so many entries.
+fn store_over(alloc: Global, disk: MemDisk, quota: u64) -> Option<PlainStore<MemDisk>>
+    requires { quota ≤ 2 ^ 20 }
+    ensures quota { IfSome result (λ store. store.quota ≡ quota) }
+    ensures vertices { IfSome result (λ store. store.vertices ≡ 8) }
+    ensures places { IfSome result (λ store. store.places ≡ Free ∷ Free ∷ Free ∷ Free ∷ []) }
+{
+    let opened = match attach(alloc, disk, 8, 1_000_000) {
+        Ok(opened) => opened,
+        Err(_) => return None,
+    };
+    let setup = Setup {
+        vertices: 8,
+        ring: 1,
+        shards: 2,
+    };
+    match PlainStore::new(alloc, opened, setup, &[quota]) {
+        Ok(store) => Some(store),
+        Err(_) => None,
+    }
+}
+
+#[test]
+fn views_stay_while_entries_move_to_shards_and_file(rt: HostRuntime) -> Result<(), Fail> {
+    let disk = MemDisk::new(rt.alloc(), b"", 400)?;
+    let Some(store) = store_over(rt.alloc(), disk, 3) else {
+        return Err(Fail::new("not made"));
+    };
+    let mut session = store.session(1);
+    assert_eq!(rt; session.vertices(), 8);
+    assert_eq!(rt; session.opened(), 0);
+    let Ok(first) = session.put(add(1, 2)) else {
+        return Err(Fail::new("not put"));
+    };
+    let Ok(front) = session.view(0) else {
+        return Err(Fail::new("no view"));
+    };
+    let Ok(second) = session.put(add(1, 3)) else {
+        return Err(Fail::new("not put"));
+    };
+    let mut list = [9].to_vec(rt.alloc())?;
+    assert_eq!(rt; session.neighbours(0, 1, &mut list), Ok(()));
+    assert_eq!(rt; (first, front, second), (0, 1, 1));
+    assert_eq!(rt; list.as_slice(), [2].as_slice());
+    let finished = session.back().finish();
+    assert_eq!(rt; finished.durable, 2);
+    assert_eq!(rt; finished.stop, None);
+    let mut bytes = Vec::new(rt.alloc());
+    finished.disk.image(0, &mut bytes)?;
+    assert_eq!(rt; bytes.len(), 16 + 13 + 13);
+    Ok(())
+}

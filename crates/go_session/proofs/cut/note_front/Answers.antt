@@ -1,0 +1,1 @@
+-- What `note_front` keeps.
