@@ -1,4 +1,4 @@
-# For the scripts that measure go_bench: builds it, and the plain program of baseline/$1.rs, and sets
+# For the scripts that measure go_bench: builds it, and the plain program of baseline/$1.rs where $1 is not empty, and sets
 #   here   this folder
 #   work   a folder that is removed at the end
 #   plain  the plain program
@@ -9,7 +9,7 @@ trap 'rm -rf "$work"' EXIT
 plain=$work/plain
 ours=$here/../crates/go_bench/out/go_bench
 
-rustc -O --edition 2024 -o "$plain" "$here/baseline/$1.rs"
+if [ -n "$1" ]; then rustc -O --edition 2024 -o "$plain" "$here/baseline/$1.rs"; fi
 # The command runs what it has built, here without words, which ends with its usage and another status than 0.
 (cd "$here/../crates/go_bench" && rt run < /dev/null > "$work/build.log" 2>&1) || true
 if ! grep -q '^rt: running out/go_bench' "$work/build.log"; then

@@ -1,21 +1,11 @@
 //! The plain program for log files: writes and reads the same bytes as go_bench, with std alone and no contracts.
+mod edges;
+
+use edges::{Edge, spread};
 use std::time::Instant;
 
 const VERTICES: u32 = 65536;
 const BLOCK: u64 = 65536;
-
-struct Edge {
-    del: bool,
-    src: u32,
-    dst: u32,
-}
-
-fn edge_at(number: u64) -> Edge {
-    let del = number % 8 == 7;
-    let place = if del { number - 4 } else { number };
-    let word = place.wrapping_mul(0x9E37_79B9_7F4A_7C15);
-    Edge { del, src: (word / 0x1_0000_0000 % 65536) as u32, dst: (word / 0x1_0000_0000_0000) as u32 }
-}
 
 fn write(file: &str, entries: u64) {
     let mut bytes = b"\x01GRONELOG\x01\x00".to_vec();
@@ -25,13 +15,12 @@ fn write(file: &str, entries: u64) {
     let mut left = entries;
     while left > 0 {
         let count = left.min(BLOCK);
-        let edges: Vec<Edge> = (entries - left..entries - left + count).map(edge_at).collect();
+        let edges: Vec<Edge> = (entries - left..entries - left + count).map(spread).collect();
         *bytes.last_mut().unwrap() = 1;
         bytes.reserve(5 + 8 * edges.len());
         bytes.extend_from_slice(&(count as u32).to_le_bytes());
         for edge in &edges {
-            let word = u64::from(edge.del) << 63 | u64::from(edge.src) << 31 | u64::from(edge.dst);
-            bytes.extend_from_slice(&word.to_le_bytes());
+            bytes.extend_from_slice(&edge.word().to_le_bytes());
         }
         bytes.push(0);
         left -= count;

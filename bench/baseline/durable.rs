@@ -1,24 +1,14 @@
 //! The plain program for durable appends: writes the same bytes to a file with the same syncs as go_bench, with std alone and no
 //! contracts.
+mod edges;
+
+use edges::{Edge, spread};
 use std::fs::{File, OpenOptions};
 use std::os::unix::fs::FileExt;
 use std::time::Instant;
 
 const VERTICES: u32 = 65536;
 const BLOCK: u64 = 65536;
-
-struct Edge {
-    del: bool,
-    src: u32,
-    dst: u32,
-}
-
-fn edge_at(number: u64) -> Edge {
-    let del = number % 8 == 7;
-    let place = if del { number - 4 } else { number };
-    let word = place.wrapping_mul(0x9E37_79B9_7F4A_7C15);
-    Edge { del, src: (word / 0x1_0000_0000 % 65536) as u32, dst: (word / 0x1_0000_0000_0000) as u32 }
-}
 
 fn make(file: &File) -> std::io::Result<()> {
     let mut header = b"GRONELOG\x01\x00".to_vec();
@@ -36,8 +26,7 @@ fn append(file: &File, gate: u64, edges: &[Edge]) -> std::io::Result<u64> {
     let mut body = Vec::with_capacity(5 + 8 * edges.len());
     body.extend_from_slice(&(edges.len() as u32).to_le_bytes());
     for edge in edges {
-        let word = u64::from(edge.del) << 63 | u64::from(edge.src) << 31 | u64::from(edge.dst);
-        body.extend_from_slice(&word.to_le_bytes());
+        body.extend_from_slice(&edge.word().to_le_bytes());
     }
     body.push(0);
     file.write_all_at(&body, gate + 1)?;
@@ -57,7 +46,7 @@ fn main() -> std::io::Result<()> {
     let mut left = entries;
     while left > 0 {
         let count = left.min(BLOCK);
-        let edges: Vec<Edge> = (entries - left..entries - left + count).map(edge_at).collect();
+        let edges: Vec<Edge> = (entries - left..entries - left + count).map(spread).collect();
         gate = append(&file, gate, &edges)?;
         left -= count;
     }

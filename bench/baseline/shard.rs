@@ -1,4 +1,7 @@
 //! The plain program for shards: `Vec<Vec<u64>>`, the words of each vertex in order, filled and read as go_bench does.
+mod edges;
+
+use edges::{Edge, mixed, spread};
 use std::collections::HashMap;
 use std::collections::VecDeque;
 use std::time::Instant;
@@ -6,16 +9,9 @@ use std::time::Instant;
 const VERTICES: u32 = 65536;
 const BATCH: usize = 65536;
 
-fn spread(number: u64) -> (bool, u32, u32) {
-    let del = number % 8 == 7;
-    let place = if del { number - 4 } else { number };
-    let word = place.wrapping_mul(0x9E37_79B9_7F4A_7C15);
-    (del, (word / 0x1_0000_0000 % 65536) as u32, (word / 0x1_0000_0000_0000) as u32)
-}
-
-fn hub(number: u64) -> (bool, u32, u32) {
-    let word = (number / 2).wrapping_mul(0x9E37_79B9_7F4A_7C15);
-    (number % 2 == 1, 0, (word / 0x1_0000_0000_0000) as u32)
+fn hub(number: u64) -> Edge {
+    let word = mixed(number / 2);
+    Edge { del: number % 2 == 1, src: 0, dst: (word / 0x1_0000_0000_0000) as u32 }
 }
 
 /// The neighbours that words leave: short lists are searched at a deletion, in long ones a queue for each vertex finds the earliest.
@@ -56,8 +52,8 @@ fn main() {
     let mut lists: Vec<Vec<u64>> = vec![Vec::new(); VERTICES as usize];
     for first in (0..entries).step_by(BATCH) {
         let batch: Vec<_> = (first..entries.min(first + BATCH as u64)).map(edge).collect();
-        for (del, src, dst) in batch {
-            lists[src as usize].push(u64::from(del) << 63 | u64::from(src) << 31 | u64::from(dst));
+        for edge in batch {
+            lists[edge.src as usize].push(edge.word());
         }
     }
     let appended = begin.elapsed();

@@ -1,6 +1,5 @@
 -- Lemmas on the shard of a benchmark.
-use Rattle.std.proofs.Common.{◌≡◌, ℕ, List, [], ◌∷◌, ◌++◌, ap, sym, subst, refl, ◌∙◌}
-use Rattle.std.specs.List.{Contains}
+use Rattle.std.proofs.Common.{◌≡◌, ℕ, [], ◌∷◌, ◌++◌, sym, subst, refl}
 use Rattle.std.proofs.lemmas.List.Elements.{Contains-push}
 use Rattle.go_shard.specs.ShardState.{ShardState}
 use Rattle.go_bench.specs.Filled.{IsFilled}

@@ -46,7 +46,7 @@ fn spread_edge(number: u64) -> Edge
 {
     let del = number % 8 == 7;
     let place = if del { number - 4 } else { number };
-    let word = place.wrapping_mul(0x9E37_79B9_7F4A_7C15);
+    let word = mixed(place);
     Edge {
         del,
         src: (word / 0x1_0000_0000 % 65536) as u32,
@@ -59,10 +59,18 @@ fn hub_edge(number: u64) -> Edge
     ensures within { IsWithin 65536 result }
     ensures storable { IsStorable result }
 {
-    let word = (number / 2).wrapping_mul(0x9E37_79B9_7F4A_7C15);
+    let word = mixed(number / 2);
     Edge {
         del: number % 2 == 1,
         src: 0,
         dst: (word / 0x1_0000_0000_0000) as u32,
     }
+}
+
+// The number of this place in the sequence SplitMix64 (Steele, Lea and Flood, 2014) from 0 on.
+fn mixed(place: u64) -> u64 {
+    let word = place.wrapping_mul(0x9E37_79B9_7F4A_7C15);
+    let word = (word ^ (word >> 30)).wrapping_mul(0xBF58_476D_1CE4_E5B9);
+    let word = (word ^ (word >> 27)).wrapping_mul(0x94D0_49BB_1331_11EB);
+    word ^ (word >> 31)
 }

@@ -6,6 +6,7 @@
 mod blocks;
 mod durable;
 mod edges;
+mod events;
 mod shard;
 
 use edges::Shape;
@@ -23,6 +24,7 @@ fn main(rt: HostRuntime) -> io::Result<()> {
     match job.as_str() {
         "shard" => shard::run(&rt, rt.alloc(), Shape::Spread, entries),
         "hub" => shard::run(&rt, rt.alloc(), Shape::Hub, entries),
+        "events" => events::run(&rt, rt.alloc(), entries),
         "write-blocks" => blocks::write(&rt, rt.alloc(), file, u64::from(entries)),
         "append-log" => durable::append(&rt, rt.alloc(), file, u64::from(entries)),
         "read-blocks" => blocks::read(&rt, rt.alloc(), file),

@@ -1,0 +1,74 @@
+#!/usr/bin/env bash
+# Scripts of 10,000, 100,000 and 1,000,000 additions that end in a view and a list of neighbours, one that asks as often as it adds, and
+# a second run over the log of 1,000,000 entries that asks 1,000 times: time, peak memory and time a line, each on a real file, beside
+# the plain Rust program of baseline/store.rs with the same file and syncs in the same run. The files are compared byte by byte.
+set -eu
+here=$(cd "$(dirname "$0")" && pwd)
+work=$(mktemp -d)
+trap 'rm -rf "$work"' EXIT
+
+rustc -O --edition 2024 -o "$work/plain" "$here/baseline/store.rs"
+mkdir "$work/built" && cd "$work/built"
+"$here/../graphone" drive "$here/../examples/first.gs" > /dev/null
+graphone=$here/../crates/graphone/out/graphone
+cd "$work"
+
+# Additions between vertices that a fixed sequence gives; with "ask", each followed by a question.
+make_script() {
+    awk -v lines="$1" -v ask="$2" 'BEGIN {
+        x = 1
+        if (ask) print "add 0 0\nview 0"
+        for (i = 0; i < lines; i++) {
+            x = (x * 16807) % 2147483647; s = x % 65536
+            x = (x * 16807) % 2147483647; d = x % 65536
+            print "add " s " " d
+            if (ask) print "neigh 0 " s
+        }
+        if (!ask) print "view 0\nneigh 0 1"
+    }'
+}
+
+# Questions over a view, and no additions.
+make_questions() {
+    awk -v lines="$1" 'BEGIN { x = 1; print "view 0"; for (i = 0; i < lines; i++) { x = (x * 16807) % 2147483647; print "neigh 0 " x % 65536 } }'
+}
+
+printf '%-10s %9s %9s %9s %11s %11s %7s %7s\n' lines seconds ns/line growth plain\ s peak\ KiB time× memory×
+first=
+row() {
+    local name=$1 lines=$2 ours=$3 plain=$4
+    [ -n "$first" ] || first=$(awk -v n="$lines" '{ print $1 / n }' <<< "$ours")
+    awk -v n="$lines" -v first="$first" -v ours="$ours" -v plain="$plain" -v name="$name" 'BEGIN {
+        split(ours, o); split(plain, p)
+        printf "%-10s %9.3f %9.0f %9.2f %11.3f %11d %7.2f %7.2f\n", name, o[1], o[1] / n * 1e9, o[1] / n / first, p[1], o[2], o[1] / p[1], o[2] / p[2]
+    }'
+}
+
+# Both programs once in folders of their own: their replies and their files are the same.
+compare() {
+    local script=$1 program
+    for program in "$graphone" "$work/plain"; do
+        mkdir -p "$work/$(basename "$program").files"
+        (cd "$work/$(basename "$program").files" && "$program" drive "$script" > replies)
+    done
+    cmp "$work/graphone.files/replies" "$work/plain.files/replies"
+    cmp "$work/graphone.files/graph.log" "$work/plain.files/graph.log"
+}
+
+anew() {
+    rm -rf "$work"/*.files
+    compare "$1"
+    row "$3" "$2" "$(python3 "$here/measure.py" --new-folder 5 "$graphone" drive "$1")" "$(python3 "$here/measure.py" --new-folder 5 "$work/plain" drive "$1")"
+}
+
+for lines in 10000 100000 1000000; do
+    make_script "$lines" 0 > "$work/$lines.gs"
+    anew "$work/$lines.gs" "$lines" "$lines"
+done
+make_questions 1000 > "$work/questions.gs"
+compare "$work/questions.gs"
+cd "$work/graphone.files"
+row again 1000 "$(python3 "$here/measure.py" 5 "$graphone" drive "$work/questions.gs")" "$(python3 "$here/measure.py" 5 "$work/plain" drive "$work/questions.gs")"
+cd "$work"
+make_script 500000 1 > "$work/ask.gs"
+anew "$work/ask.gs" 1000000 asking
