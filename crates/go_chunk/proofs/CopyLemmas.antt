@@ -43,3 +43,8 @@ pub begins-twice : (old mid new : List ℕ) → take (length old) mid ≡ old �
 begins-twice old mid new one two =
     let short : length old ≤ length mid = omega (arith, ap length one, length-take (length old) mid) in
     sym (take-take (length old) (length mid) new short) ∙ ap (λ l. take (length old) l) two ∙ one
+
+-- a front of what is seen of a list is the same front of the list
+pub front-of_view : (k len : ℕ) (all view : List ℕ) → take len all ≡ view → k ≤ length view → take k all ≡ take k view
+front-of_view k len all view is short =
+    sym (take-take k len all (omega (arith, ap length is, length-take len all))) ∙ ap (λ l. take k l) is

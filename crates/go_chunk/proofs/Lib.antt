@@ -1,4 +1,3 @@
--- Lemmas on the pieces of a chain and on the chain.
-pub mod FilledLemmas
+-- Lemmas on the pieces of a chain.
+pub mod PlaceLemmas
 pub mod CopyLemmas
-pub mod KeptLemmas

@@ -1,19 +1,21 @@
 //! A chain of chunks: a list of words that grows without moving one.
 ghost use Rattle.std.specs.Prelude.{◌≡◌, ◌↔◌, ◌<◌, ◌≤◌, ◌+◌, ◌∷◌, ◌++◌, [], length, slice_index, take, IsTrue, IsOk, OnOk, OnErr};
 
-use crate::chunk::Chunk;
-use crate::classes::{FIRST, LAST, Piece};
-use crate::pieces::{copy_words, push_word, word_at};
+use crate::classes::{FIRST, LAST, SECOND};
+use crate::spilled::Spilled;
 use std::alloc::{AllocError, Global};
 use std::marker::Model;
 
 /// A list of words with room in reserve.
 #[derive(Drop)]
 pub struct Chain {
-    first: Chunk<FIRST>,
-    later: Vec<Piece>,
+    // The words fill the places of the chunks from the front, and are counted here alone: with a count in each chunk
+    // a push would wait for one more line of memory.
+    first: [u64; FIRST],
+    spilled: Option<Box<Spilled>>,
     len: usize,
     spare: usize,
+    alloc: Global,
 }
 
 impl Model for Chain {
@@ -21,15 +23,16 @@ impl Model for Chain {
 
     ghost Value = { WordList };
 
-    ghost use Rattle.std.specs.Prelude.{◌++◌};
-    ghost use Rattle.go_chunk.specs.Pieces.{words_of_all, IsKept};
+    ghost use Rattle.std.specs.Prelude.{◌++◌, [], take};
+    ghost use Rattle.std.specs.Option.{option_map_or};
+    ghost use Rattle.go_chunk.specs.Pieces.{IsKept};
 
     ghost view = { λ chain. record {
-      words = chain.first ++ words_of_all chain.later.items;
+      words = take chain.len (chain.first ++ option_map_or (λ spilled. spilled.value) chain.spilled []);
       spare = chain.spare;
     } };
 
-    ghost invariant = { λ chain. IsKept chain.first chain.later.items chain.len chain.spare };
+    ghost invariant = { λ chain. IsKept chain.first (option_map_or (λ spilled. spilled.value) chain.spilled []) chain.len chain.spare };
 }
 
 impl Chain {
@@ -38,10 +41,11 @@ impl Chain {
         ensures { result.words ≡ [] }
     {
         Chain {
-            first: Chunk::new(),
-            later: Vec::new(alloc),
+            first: [0; FIRST],
+            spilled: None,
             len: 0,
             spare: FIRST,
+            alloc,
         }
     }
 
@@ -72,9 +76,11 @@ impl Chain {
         ensures { result ≡ slice_index self.now.words i }
     {
         if i < FIRST {
-            self.first.get(i)
-        } else {
-            word_at(&self.later, self.len - FIRST, i - FIRST)
+            return self.first[i];
+        }
+        match &self.spilled {
+            Some(spilled) => spilled.get(i - FIRST),
+            None => unreachable!(),
         }
     }
 
@@ -85,42 +91,28 @@ impl Chain {
         ensures never_less { self.old.spare ≤ self.new.spare }
         ensures enough { k ≤ self.old.spare → IsOk result }
     {
-        if k <= self.spare {
-            return Ok(());
-        }
-        self.reserve_table(k - self.spare)?;
         while self.spare < k {
-            self.grow()?;
+            self.grow(k - self.spare)?;
         }
         Ok(())
     }
 
-    /// Makes room for the pieces of so many words, so that what no memory holds is refused at once.
-    fn reserve_table(&mut self, missing: usize) -> Result<(), AllocError>
-        ensures { self.new ≡ self.old }
-    {
-        let pieces = missing / LAST + 1;
-        if self.later.is_empty() {
-            // Most chains never have a second piece.
-            self.later.reserve_exact(pieces)
-        } else {
-            self.later.reserve(pieces)
-        }
-    }
-
-    /// Adds the next piece.
-    fn grow(&mut self) -> Result<(), AllocError>
+    /// Adds the next chunk, where so many words more are wanted.
+    fn grow(&mut self, missing: usize) -> Result<(), AllocError>
         ensures more { OnOk result (self.old.spare < self.new.spare) }
         ensures words { self.new.words ≡ self.old.words }
         ensures err { OnErr result (self.new ≡ self.old) }
     {
-        let alloc = *self.later.allocator();
-        let piece = Piece::at(alloc, self.later.len())?;
-        let room = (self.len + self.spare)
-            .checked_add(piece.size())
-            .ok_or(AllocError)?;
-        self.later.push(piece)?;
-        self.spare = room - self.len;
+        // No number counts more places than that, and no memory has them.
+        (self.len + self.spare).checked_add(LAST).ok_or(AllocError)?;
+        let more = match &mut self.spilled {
+            Some(spilled) => spilled.grow(missing)?,
+            None => {
+                self.spilled = Some(Box::new(self.alloc, Spilled::new(self.alloc))?);
+                SECOND
+            }
+        };
+        self.spare += more;
         Ok(())
     }
 
@@ -134,9 +126,9 @@ impl Chain {
         self.len += 1;
         self.spare -= 1;
         if len < FIRST {
-            self.first.push(word);
-        } else {
-            push_word(&mut self.later, len - FIRST, word);
+            self.first[len] = word;
+        } else if let Some(spilled) = &mut self.spilled {
+            spilled.put(len - FIRST, word);
         }
     }
 
@@ -171,9 +163,12 @@ impl Chain {
         ensures ok { OnOk result (out.new.items ≡ out.old.items ++ take k self.now.words) }
         ensures kept { take (length out.old.items) out.new.items ≡ out.old.items }
     {
-        let in_first = k.min(self.first.len());
-        out.extend_from_slice(&self.first.words()[..in_first])?;
-        copy_words(&self.later, k - in_first, out)
+        let in_first = k.min(FIRST);
+        out.extend_from_slice(&self.first[..in_first])?;
+        match &self.spilled {
+            Some(spilled) => spilled.copy_front(k - in_first, out),
+            None => Ok(()),
+        }
     }
 }
 
@@ -256,11 +251,15 @@ mod tests {
 
     #[test]
     fn more_than_any_memory_holds_is_refused_at_once(rt: HostRuntime) -> Result<(), Fail> {
-        let mut chain = counted(&rt, 5)?;
-        assert!(rt; chain.reserve(usize::MAX).is_err());
-        assert_eq!(rt; chain.len(), 5);
-        assert!(rt; 4 < chain.len());
-        assert_eq!(rt; chain.get(4), 4);
+        for len in [0, 1, 5, 100] {
+            let mut chain = counted(&rt, len)?;
+            assert!(rt; chain.reserve(usize::MAX).is_err(), "with {len}");
+            assert_eq!(rt; chain.len(), len as usize);
+            chain.reserve(1)?;
+            chain.push(7);
+            assert!(rt; (len as usize) < chain.len());
+            assert_eq!(rt; chain.get(len as usize), 7, "with {len}");
+        }
         Ok(())
     }
 }

@@ -1,66 +1,55 @@
 //! The table of classes: how many words each chunk of a chain has room for.
-ghost use Rattle.std.specs.Prelude.{◌≡◌, ◌<◌, ◌≤◌, ◌+◌, ◌∷◌, ◌++◌, [], length, slice_index, IfOk};
-ghost use Rattle.go_chunk.specs.Pieces.{words_of, size_of, class_at, start_of};
+ghost use Rattle.std.specs.Prelude.{◌≡◌, ◌<◌, ◌≤◌, ◌+◌, length, slice_set, IfOk};
+ghost use Rattle.go_chunk.specs.Pieces.{words_of, class_at, start_of};
 
-use crate::chunk::Chunk;
 use std::alloc::{AllocError, Global};
 
 /// The class of the chunk that lies in the chain itself.
 pub(crate) const FIRST: usize = 4;
 
-/// The class of the first chunk behind it.
+/// The class of the chunk behind it.
 pub(crate) const SECOND: usize = 16;
 
-/// The class of the chunk after that.
+/// The class of the first piece, which is the chunk after that.
 pub(crate) const THIRD: usize = 64;
 
-/// The class of each further chunk.
+/// The class of each further piece.
 pub(crate) const LAST: usize = 256;
 
-/// The classes of the chunks between the first and those of the last class.
-pub(crate) const GROWING: [usize; 2] = [SECOND, THIRD];
+/// The classes of the pieces in front of those of the last class.
+pub(crate) const GROWING: [usize; 1] = [THIRD];
 
-/// A chunk of one of the classes, on the heap.
+/// A chunk of one of the classes behind the second, on the heap.
 #[derive(Drop)]
 pub(crate) enum Piece {
-    Second(Box<Chunk<SECOND>>),
-    Third(Box<Chunk<THIRD>>),
-    Last(Box<Chunk<LAST>>),
+    Third(Box<[u64; THIRD]>),
+    Last(Box<[u64; LAST]>),
 }
 
 /// The table: calls a macro of cases with a row for each class.
 macro_rules! by_class {
     ($cases:ident $given:tt) => {
-        $cases!($given [Second SECOND] [Third THIRD] [Last LAST])
+        $cases!($given [Third THIRD] [Last LAST])
     };
 }
 
-/// What an expression gives at the chunk in a piece, whichever its class.
-macro_rules! at_chunk {
-    (($piece:expr, $chunk:ident, $answer:expr) $([$class:ident $size:ident])+) => {
+/// What an expression gives at the words in a piece, whichever its class.
+macro_rules! at_words {
+    (($piece:expr, $words:ident, $answer:expr) $([$class:ident $size:ident])+) => {
         match $piece {
-            $(Piece::$class($chunk) => $answer,)+
+            $(Piece::$class($words) => $answer,)+
         }
     };
 }
 
-/// How many words a piece has room for.
-macro_rules! size_in {
-    (($piece:expr) $([$class:ident $size:ident])+) => {
-        match $piece {
-            $(Piece::$class(_) => $size,)+
-        }
-    };
-}
-
-/// An empty piece of the class at an index.
+/// A piece of the class at an index.
 macro_rules! piece_at {
     (($alloc:expr, $index:expr) [$class:ident $size:ident]) => {
-        Piece::$class(Box::new($alloc, Chunk::new())?)
+        Piece::$class(Box::new($alloc, [0; $size])?)
     };
     (($alloc:expr, $index:expr) [$class:ident $size:ident] $($others:tt)+) => {
         if $index == 0 {
-            Piece::$class(Box::new($alloc, Chunk::new())?)
+            Piece::$class(Box::new($alloc, [0; $size])?)
         } else {
             piece_at!(($alloc, $index - 1) $($others)+)
         }
@@ -82,7 +71,7 @@ macro_rules! place_at {
     };
 }
 
-/// Where a word lies behind the first chunk.
+/// Where a word lies in the pieces.
 #[derive(Clone, Copy)]
 pub(crate) struct Place {
     pub(crate) piece: usize,
@@ -100,42 +89,25 @@ impl Place {
 }
 
 impl Piece {
-    /// An empty piece of the class that the piece at this index has.
+    /// A piece of the class that the piece at this index has.
     pub(crate) fn at(alloc: Global, index: usize) -> Result<Piece, AllocError>
-        ensures empty { IfOk result (λ piece. words_of piece ≡ []) }
-        ensures class { IfOk result (λ piece. size_of piece ≡ class_at GROWING index) }
+        ensures class { IfOk result (λ piece. length (words_of piece) ≡ class_at GROWING index) }
     {
         Ok(by_class!(piece_at(alloc, index)))
     }
 
-    /// How many words the piece has room for.
-    pub(crate) fn size(&self) -> usize
-        ensures { result ≡ size_of self.now }
-    {
-        by_class!(size_in(self))
-    }
-
-    /// The words, in order.
+    /// The words in all of its places.
     pub(crate) fn words(&self) -> &[u64]
         ensures { result.now ≡ words_of self.now }
     {
-        by_class!(at_chunk(self, chunk, chunk.words()))
+        by_class!(at_words(self, words, &words[..]))
     }
 
-    /// The word at place `i`.
-    pub(crate) fn get(&self, i: usize) -> u64
-        requires { i < length (words_of self.now) }
-        ensures { result ≡ slice_index (words_of self.now) i }
+    /// Puts a word into a place.
+    pub(crate) fn put(&mut self, place: usize, word: u64)
+        requires { place < length (words_of self.old) }
+        ensures { words_of self.new ≡ slice_set (words_of self.old) place word }
     {
-        by_class!(at_chunk(self, chunk, chunk.get(i)))
-    }
-
-    /// Puts a word behind the others.
-    pub(crate) fn push(&mut self, word: u64)
-        requires { length (words_of self.old) < size_of self.old }
-        ensures added { words_of self.new ≡ words_of self.old ++ word ∷ [] }
-        ensures class { size_of self.new ≡ size_of self.old }
-    {
-        by_class!(at_chunk(self, chunk, chunk.push(word)))
+        by_class!(at_words(self, words, words[..][place] = word))
     }
 }

@@ -14,6 +14,7 @@ mod chain;
 mod chunk;
 mod classes;
 mod pieces;
+mod spilled;
 
 pub use chain::Chain;
 pub use chunk::Chunk;

@@ -1,29 +1,29 @@
 //! A chain's pieces as one list of words.
-ghost use Rattle.std.specs.Prelude.{◌≡◌, ◌<◌, ◌≤◌, ◌+◌, ◌∷◌, ◌++◌, [], length, slice_index, take, OnOk, OnErr};
-ghost use Rattle.go_chunk.specs.Pieces.{words_of_all, start_of, IsFilled};
+ghost use Rattle.std.specs.Prelude.{◌≡◌, ◌<◌, ◌≤◌, ◌++◌, length, slice_index, slice_set, take, OnOk};
+ghost use Rattle.go_chunk.specs.Pieces.{words_of_all, HaveClasses};
 
 use crate::classes::{GROWING, Piece, Place};
 use std::alloc::AllocError;
 
-/// The word `i` of the `count` words in the pieces.
-pub(crate) fn word_at(pieces: &[Piece], count: usize, i: usize) -> u64
-    requires filled { IsFilled GROWING count pieces.now }
-    requires inside { i < count }
+/// The word `i` of the pieces.
+pub(crate) fn word_at(pieces: &[Piece], i: usize) -> u64
+    requires classes { HaveClasses GROWING pieces.now }
+    requires inside { i < length (words_of_all pieces.now) }
     ensures { result ≡ slice_index (words_of_all pieces.now) i }
 {
     let place = Place::of(i);
-    pieces[place.piece].get(place.offset)
+    pieces[place.piece].words()[place.offset]
 }
 
-/// Puts a word behind the `count` words in the pieces.
-pub(crate) fn push_word(pieces: &mut [Piece], count: usize, word: u64)
-    requires filled { IsFilled GROWING count pieces.old }
-    requires room { count < start_of GROWING (length pieces.old) }
-    ensures filled { IsFilled GROWING (count + 1) pieces.new }
-    ensures added { words_of_all pieces.new ≡ words_of_all pieces.old ++ word ∷ [] }
+/// Puts a word into the place `i` of the pieces.
+pub(crate) fn put_word(pieces: &mut Vec<Piece>, i: usize, word: u64)
+    requires classes { HaveClasses GROWING pieces.old.items }
+    requires inside { i < length (words_of_all pieces.old.items) }
+    ensures classes { HaveClasses GROWING pieces.new.items }
+    ensures put { words_of_all pieces.new.items ≡ slice_set (words_of_all pieces.old.items) i word }
 {
-    let place = Place::of(count);
-    pieces[place.piece].push(word);
+    let place = Place::of(i);
+    pieces[place.piece].put(place.offset, word);
 }
 
 /// Appends the first `k` words of the pieces, one piece after another.
