@@ -10,7 +10,8 @@ pub(crate) const FEW: usize = 4;
 /// Up to four versions in place, in the order in which they were pushed.
 #[derive(Drop)]
 pub(crate) struct Few {
-    used: usize,
+    // 32 bits, as the parts of a version have, so that no byte is lost to alignment
+    used: u32,
     versions: [StoredVersion; FEW],
 }
 
@@ -47,14 +48,14 @@ impl Few {
         ensures count { result ≡ length self.now }
         ensures within { result ≤ 4 }
     {
-        self.used
+        self.used as usize
     }
 
     /// The versions, in order.
     pub(crate) fn versions(&self) -> &[StoredVersion]
         ensures { result.now ≡ self.now }
     {
-        &self.versions[..self.used]
+        &self.versions[..self.used as usize]
     }
 
     /// Puts a version behind the others.
@@ -62,7 +63,7 @@ impl Few {
         requires { length self.old < 4 }
         ensures { self.new ≡ self.old ++ version ∷ [] }
     {
-        self.versions[self.used] = version;
+        self.versions[self.used as usize] = version;
         self.used += 1;
     }
 
@@ -71,7 +72,7 @@ impl Few {
         requires { count ≤ length self.old }
         ensures { self.new ≡ drop count self.old }
     {
-        self.versions[..self.used].rotate_left(count);
-        self.used -= count;
+        self.versions[..self.used as usize].rotate_left(count);
+        self.used -= count as u32;
     }
 }

@@ -9,6 +9,11 @@ use crate::search::reached;
 use crate::version::StoredVersion;
 use std::alloc::{AllocError, Global};
 use std::marker::Model;
+use std::snapshot::Snapshot;
+
+/// How many versions the first growth makes room for at once: a number that grows past the versions
+/// in place goes on to grow, and each growth is a copy.
+const FIRST_GROWTH: usize = 8;
 
 /// What a number was at each front that was noted and is still answered for.
 #[derive(Drop)]
@@ -17,7 +22,8 @@ pub struct Versions {
     noted: Vec<StoredVersion>,
     // the first ones
     early: Few,
-    retired: u64,
+    // for clauses alone
+    retired: Snapshot<u64>,
 }
 
 impl Model for Versions {
@@ -30,7 +36,7 @@ impl Model for Versions {
 
     ghost view = { λ held. record {
       versions = held.early ++ held.noted.items;
-      retired = held.retired;
+      retired = held.retired.value;
       spare = room_of (length held.early) (vec_len held.noted) (vec_capacity held.noted);
     } };
 
@@ -46,7 +52,7 @@ impl Versions {
         Versions {
             noted: Vec::new(alloc),
             early: Few::new(),
-            retired: 0,
+            retired: Snapshot::of(&0),
         }
     }
 
@@ -61,7 +67,11 @@ impl Versions {
         if self.noted.is_empty() && self.early.len() < FEW {
             return Ok(());
         }
-        self.noted.reserve(1)
+        if self.noted.capacity() == 0 {
+            self.noted.reserve_exact(FIRST_GROWTH)
+        } else {
+            self.noted.reserve(1)
+        }
     }
 
     /// Notes that the number is `count` from `front` on.
@@ -112,7 +122,7 @@ impl Versions {
         let early = given_up.min(self.early.len());
         self.early.drop_front(early);
         drop_front(&mut self.noted, given_up - early);
-        self.retired = front;
+        self.retired = Snapshot::of(&front);
     }
 
     // How many versions stand at or below the front: these are the first ones.
@@ -214,16 +224,31 @@ mod tests {
         Ok(())
     }
 
+    // Ten versions more, at every third front from 15 on: past what the first growth makes room for.
     #[test]
     fn more_versions_than_lie_in_place_are_kept(rt: HostRuntime) -> Result<(), Fail> {
         let mut versions = noted(&rt)?;
-        versions.reserve()?;
-        versions.note(15, 7);
-        for (front, count) in [(2, 0), (3, 2), (11, 4), (14, 4), (15, 7), (99, 7)] {
+        for more in 0..10 {
+            versions.reserve()?;
+            versions.note(15 + 3 * u64::from(more), 7 + more);
+        }
+        for (front, count) in [
+            (2, 0),
+            (3, 2),
+            (11, 4),
+            (14, 4),
+            (15, 7),
+            (35, 13),
+            (36, 14),
+            (38, 14),
+            (39, 15),
+            (42, 16),
+            (99, 16),
+        ] {
             assert_eq!(rt; versions.at(front), count, "at {front}");
         }
         versions.retire(13);
-        for (front, count) in [(13, 4), (15, 7), (99, 7)] {
+        for (front, count) in [(13, 4), (15, 7), (38, 14), (39, 15), (99, 16)] {
             assert!(rt; 13 <= front);
             assert_eq!(rt; versions.at(front), count, "at {front}, retired");
         }

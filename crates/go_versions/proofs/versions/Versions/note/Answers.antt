@@ -1,7 +1,6 @@
 -- The new version is the last, wherever it lies, and tells the count from its front on.
-use Rattle.std.proofs.Common.{◌≡◌, ◌++◌, ◌∷◌, [], ℕ, List, length, sym, ap, subst, ◌∙◌, arith}
+use Rattle.std.proofs.Common.{◌≡◌, ◌++◌, length, ap, subst, arith}
 use Rattle.std.proofs.lemmas.Grind.{common_steps}
-use Rattle.go_versions.specs.Version.{Version}
 use Rattle.go_versions.specs.History.{IsRising}
 use Rattle.go_versions.proofs.HistoryLemmas.{pushed_early, pushed_later, rises_pushed, count_at-pushed}
 use Rattle.go_versions.proofs.versions.Versions.note.Goals as goal

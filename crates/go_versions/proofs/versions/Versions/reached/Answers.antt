@@ -1,5 +1,5 @@
 -- Where a later version reaches the front, all first ones do.
-use Rattle.std.proofs.Common.{◌≡◌, ◌+◌, ◌++◌, ℕ, List, length, sym, ap, subst, ◌∙◌, ◌≤◌}
+use Rattle.std.proofs.Common.{◌+◌, ℕ, List, length, sym, ap, subst, ◌≤◌}
 use Rattle.go_versions.specs.Version.{Version}
 use Rattle.go_versions.specs.History.{IsRising}
 use Rattle.go_versions.proofs.HistoryLemmas.{PartsAt, IsRising-left, IsRising-right, PartsAt-both}

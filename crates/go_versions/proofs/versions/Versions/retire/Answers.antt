@@ -1,6 +1,5 @@
 -- What is left are the versions from the last that reaches the front on, whichever part they lie in.
-use Rattle.std.proofs.Common.{◌≡◌, ◌-◌, ◌++◌, ℕ, List, min, drop, sym, ap, subst, refl, ◌∙◌}
-use Rattle.go_versions.specs.Version.{Version}
+use Rattle.std.proofs.Common.{◌++◌, min, drop, sym, ap, subst, refl, ◌∙◌}
 use Rattle.go_versions.specs.History.{IsRising}
 use Rattle.go_versions.proofs.HistoryLemmas.{IsRising-drop, dropped_both, has_retired}
 use Rattle.go_versions.proofs.versions.Versions.retire.Goals as goal
