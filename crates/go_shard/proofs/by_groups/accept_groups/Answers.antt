@@ -3,7 +3,8 @@ use Rattle.std.proofs.Common.{◌<◌, length, get_or, fold, sym, arith, ◌∙�
 use Rattle.std.proofs.lemmas.List.{length-set}
 use Rattle.go_shard.specs.Lane.{lane_at, accepting}
 use Rattle.go_shard.specs.Groups.{group_at}
-use Rattle.go_shard.proofs.GroupLemmas.{begin_of-next, lanes_next, lanes_done, lane_left, is_ready, accepted_here}
+use Rattle.go_shard.proofs.GroupLemmas.{begin_of-next}
+use Rattle.go_shard.proofs.ByGroupsLemmas.{lanes_next, lanes_done, lane_left, is_ready, accepted_here}
 use Rattle.go_shard.proofs.by_groups.accept_groups.Goals as goal
 
 pub accept-requires-clause-promised : goal.accept-requires-clause-promised

@@ -3,7 +3,8 @@ use Rattle.std.proofs.Common.{◌<◌, length, get_or, sym, arith, ◌∙◌}
 use Rattle.std.proofs.lemmas.List.{length-set}
 use Rattle.go_shard.specs.Lane.{lane_at, promising}
 use Rattle.go_shard.specs.Groups.{size_at}
-use Rattle.go_shard.proofs.GroupLemmas.{begin_of-next, lanes_next, lanes_done, lane_left, promised_here, promised_restored}
+use Rattle.go_shard.proofs.GroupLemmas.{begin_of-next}
+use Rattle.go_shard.proofs.ByGroupsLemmas.{lanes_next, lanes_done, lane_left, promised_here, promised_restored}
 use Rattle.go_shard.proofs.by_groups.promise_groups.Goals as goal
 
 pub loop-place-preserved : goal.loop-place-preserved

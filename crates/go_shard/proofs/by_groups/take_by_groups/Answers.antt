@@ -4,7 +4,7 @@ use Rattle.std.specs.Result.{is_err}
 use Rattle.go_shard.specs.Lane.{Lane, lane_at, promising, accepting, IsAhead, IsRestored}
 use Rattle.go_shard.specs.Groups.{size_at, group_at, IsCut}
 use Rattle.go_shard.proofs.LaneLemmas.{IsAhead-promising, on_err, at_ok}
-use Rattle.go_shard.proofs.GroupLemmas.{IsCut-within, groups-All, took_groups, withdrawn_groups}
+use Rattle.go_shard.proofs.ByGroupsLemmas.{IsCut-within, groups-All, took_groups, withdrawn_groups}
 use Rattle.go_shard.proofs.by_groups.take_by_groups.Goals as goal
 
 pub promise_groups-promised-requires-clause-cut : goal.promise_groups-promised-requires-clause-cut
