@@ -4,6 +4,7 @@ ghost use Rattle.go_word.specs.Word.{IsStorable, plain_word};
 ghost use Rattle.go_shard.specs.Lane.{lane_at, is_at, promising, accepting, IsAhead, IsRestored};
 
 use crate::by_groups::take_by_groups;
+use crate::places::Places;
 use crate::slot::Slot;
 use go_word::{Edge, plain};
 use std::alloc::{AllocError, Global};
@@ -14,12 +15,11 @@ const FEW: usize = 4;
 /// Takes the entries of the batch, each to the end of its vertex. Where memory is refused, none is taken.
 pub(crate) fn take_batch(
     alloc: Global,
-    shards: u32,
+    shards: Places,
     slots: &mut [Slot],
     batch: &[Edge],
     front: u64,
 ) -> Result<(), AllocError>
-    requires shared { 0 < shards }
     requires inside { All (λ e. e.src / shards < length slots.old) batch.now }
     requires storable { All IsStorable batch.now }
     requires few { length batch.now < 2 ^ 32 }
@@ -41,12 +41,11 @@ pub(crate) fn take_batch(
 // Takes one entry after another.
 fn take_by_entries(
     alloc: Global,
-    shards: u32,
+    shards: Places,
     slots: &mut [Slot],
     batch: &[Edge],
     front: u64,
 ) -> Result<(), AllocError>
-    requires shared { 0 < shards }
     requires inside { All (λ e. e.src / shards < length slots.old) batch.now }
     requires storable { All IsStorable batch.now }
     requires settled { All (λ lane. lane.promised ≡ 0) slots.old }
@@ -65,11 +64,10 @@ fn take_by_entries(
 // Promises each entry of the batch a place at its vertex. Where memory is refused, nothing is promised.
 fn promise_all(
     alloc: Global,
-    shards: u32,
+    shards: Places,
     slots: &mut [Slot],
     batch: &[Edge],
 ) -> Result<(), AllocError>
-    requires shared { 0 < shards }
     requires inside { All (λ e. e.src / shards < length slots.old) batch.now }
     requires settled { All (λ lane. lane.promised ≡ 0) slots.old }
     ensures ok { OnOk result ((place : ℕ) → lane_at slots.new place
@@ -86,11 +84,10 @@ fn promise_all(
 // Promises a place to one entry after another, up to where memory is refused.
 fn promise_some(
     alloc: Global,
-    shards: u32,
+    shards: Places,
     slots: &mut [Slot],
     batch: &[Edge],
 ) -> Result<(), AllocError>
-    requires shared { 0 < shards }
     requires inside { All (λ e. e.src / shards < length slots.old) batch.now }
     requires settled { All (λ lane. lane.promised ≡ 0) slots.old }
     ensures ok { OnOk result ((place : ℕ) → lane_at slots.new place
@@ -99,27 +96,25 @@ fn promise_some(
         (count_by (is_at shards place) batch.now) (lane_at slots.old place) (lane_at slots.new place) }
 {
     for edge in batch {
-        slots[(edge.src / shards) as usize].promise(alloc, 1)?;
+        slots[shards.place_of(edge.src)].promise(alloc, 1)?;
     }
     Ok(())
 }
 
 /// Takes back what was promised to the vertices that the batch names.
-pub(crate) fn withdraw_all(shards: u32, slots: &mut [Slot], batch: &[Edge])
-    requires shared { 0 < shards }
+pub(crate) fn withdraw_all(shards: Places, slots: &mut [Slot], batch: &[Edge])
     requires inside { All (λ e. e.src / shards < length slots.old) batch.now }
     ensures { (place : ℕ) → lane_at slots.new place
         ≡ (if count_by (is_at shards place) batch.now == 0
         then lane_at slots.old place else promising (lane_at slots.old place) 0) }
 {
     for edge in batch {
-        slots[(edge.src / shards) as usize].withdraw();
+        slots[shards.place_of(edge.src)].withdraw();
     }
 }
 
 // Takes the entries of the batch, each of which was promised a place.
-fn accept_all(shards: u32, slots: &mut [Slot], batch: &[Edge], front: u64)
-    requires shared { 0 < shards }
+fn accept_all(shards: Places, slots: &mut [Slot], batch: &[Edge], front: u64)
     requires inside { All (λ e. e.src / shards < length slots.old) batch.now }
     requires storable { All IsStorable batch.now }
     requires promised { (place : ℕ) → (lane_at slots.old place).promised ≡ count_by (is_at shards place) batch.now }
@@ -130,6 +125,6 @@ fn accept_all(shards: u32, slots: &mut [Slot], batch: &[Edge], front: u64)
 {
     for edge in batch {
         let word = plain(*edge);
-        slots[(edge.src / shards) as usize].accept(&[word], front);
+        slots[shards.place_of(edge.src)].accept(&[word], front);
     }
 }

@@ -6,6 +6,7 @@ ghost use Rattle.go_shard.specs.Groups.{size_at, group_at, IsCut};
 
 use crate::batch::withdraw_all;
 use crate::groups::grouped;
+use crate::places::Places;
 use crate::slot::Slot;
 use go_word::Edge;
 use std::alloc::{AllocError, Global};
@@ -13,12 +14,11 @@ use std::alloc::{AllocError, Global};
 /// Takes the entries of the batch, each to the end of its vertex. Where memory is refused, none is taken.
 pub(crate) fn take_by_groups(
     alloc: Global,
-    shards: u32,
+    shards: Places,
     slots: &mut [Slot],
     batch: &[Edge],
     front: u64,
 ) -> Result<(), AllocError>
-    requires shared { 0 < shards }
     requires inside { All (λ e. e.src / shards < length slots.old) batch.now }
     requires storable { All IsStorable batch.now }
     requires few { length batch.now < 2 ^ 32 }

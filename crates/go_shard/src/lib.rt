@@ -15,6 +15,7 @@ mod batch;
 mod by_groups;
 mod groups;
 mod held;
+mod places;
 mod slot;
 mod store;
 

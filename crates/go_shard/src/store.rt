@@ -10,6 +10,7 @@ ghost use Rattle.go_shard.specs.ShardState.{IsOf, is_own, lane_of};
 ghost use Rattle.go_shard.specs.Stands.{Stands, GoesOn};
 
 use crate::batch::take_batch;
+use crate::places::Places;
 use crate::slot::Slot;
 use go_net::net;
 use go_word::Edge;
@@ -116,7 +117,8 @@ impl Shard {
     {
         let alloc = *self.slots.allocator();
         self.fronts.reserve(1)?;
-        take_batch(alloc, self.shards, &mut self.slots, batch, front)?;
+        let shards = Places::new(self.shards);
+        take_batch(alloc, shards, &mut self.slots, batch, front)?;
         self.fronts.push_reserved(front);
         self.front = front;
         Ok(())
@@ -156,7 +158,7 @@ impl Shard {
         ensures lane { result.now ≡ lane_of self.now v }
         ensures few { (f : ℕ) → count_at (lane_of self.now v).versions f ≤ length (lane_of self.now v).words }
     {
-        &self.slots[(v / self.shards) as usize]
+        &self.slots[Places::new(self.shards).place_of(v)]
     }
 }
 

@@ -95,6 +95,31 @@ fn the_batch_is_taken_where_there_is_memory(rt: HostRuntime) -> Result<(), Fail>
     Ok(())
 }
 
+// Shard 1 of 3 over 8 vertices, after three entries.
+fn thirds(alloc: Global) -> Result<Shard, AllocError>
+    ensures index { IfOk result (λ shard. shard.index ≡ 1) }
+    ensures shards { IfOk result (λ shard. shard.shards ≡ 3) }
+    ensures vertices { IfOk result (λ shard. shard.vertices ≡ 8) }
+    ensures cut { IfOk result (λ shard. shard.cut ≡ 0) }
+    ensures fronts { IfOk result (λ shard. shard.fronts ≡ 0 ∷ 3 ∷ []) }
+{
+    let mut shard = Shard::new(alloc, 1, 3, 8)?;
+    shard.append(&[add(4, 2), add(7, 2), add(4, 3)], 3)?;
+    Ok(shard)
+}
+
+#[test]
+fn the_number_of_shards_is_no_power_of_two(rt: HostRuntime) -> Result<(), Fail> {
+    let shard = thirds(rt.alloc())?;
+    let raw = shard.degree_at(4, 3);
+    assert_eq!(rt; (shard.degree_at(1, 3), raw), (0, 2));
+    assert_eq!(rt; shard.degree_at(7, 3), 1);
+    let mut out = Vec::new(rt.alloc());
+    shard.neighbours(4, raw, &mut out)?;
+    assert_eq!(rt; out.as_slice(), [2, 3].as_slice());
+    Ok(())
+}
+
 // Shard 0 of 1 over 64 vertices after two entries: so many that a small batch is taken entry by entry.
 fn sparse(alloc: Global) -> Result<Shard, AllocError>
     ensures index { IfOk result (λ shard. shard.index ≡ 0) }
