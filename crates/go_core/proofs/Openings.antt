@@ -18,7 +18,8 @@ use Rattle.go_core.specs.Frame.{Frame, slot, archived_in, durable_in}
 use Rattle.go_core.specs.View.{unfilled, stands}
 use Rattle.go_core.specs.Rule.{IsOf, owed, IsWritten, AreOwn, IsSound, Seated, TiedBy}
 use Rattle.go_core.specs.Opening.{AreOpening, opening_view, opening_party, opening_home, opening_parts, archives_as, flushes_as}
-use Rattle.go_core.specs.Parts.{Reaches, IsPartOf, IsShardOf, IsPinnedBy, owns}
+use Rattle.go_core.specs.Pins.{owns_name}
+use Rattle.go_core.specs.Parts.{Reaches, IsPartOf, IsShardOf, IsPinnedBy}
 use Rattle.go_core.specs.Turns.{hold_of, home_of}
 use Rattle.go_core.specs.Machine.{IsTied, AreParted, views_of, stakes_of, states_of, turn_in, frame_of, machine_of}
 use Rattle.go_core.proofs.Lookups.{lookup-within}
@@ -189,7 +190,7 @@ opening_parted slots first words roles log o long tied =
       pinned = record {
         each = opening_stakes (IsPinnedBy (λ (s : Stake). s.pins) (λ s. s.put) (λ s. s.shard.turn) []) first roles (record { pinned = λ free. All-nil (Contains []); none_put = λ free. refl });
         apart = λ id.
-            (let nobody : count_by (owns (λ (s : Stake). s.pins) (λ s. s.put) id) stakes ≡ 0 = count-none (owns (λ (s : Stake). s.pins) (λ s. s.put) id) stakes (opening_stakes (λ s. owns (λ (s : Stake). s.pins) (λ s. s.put) id s ≡ false) first roles refl) in
+            (let nobody : count_by (λ (s : Stake). owns_name id s.pins s.put) stakes ≡ 0 = count-none (λ (s : Stake). owns_name id s.pins s.put) stakes (opening_stakes (λ s. owns_name id s.pins s.put ≡ false) first roles refl) in
             omega arith);
       };
     }

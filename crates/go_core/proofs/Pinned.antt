@@ -7,8 +7,8 @@ use mathlib.Core.Option.{some}
 use lib.ListN.{get_elem?}
 use Rattle.go_core.specs.declared.pin.Pin.{Pin}
 use Rattle.go_core.specs.declared.part.PartState.{PartState}
-use Rattle.go_core.specs.Pins.{is_named, has_name}
-use Rattle.go_core.specs.Parts.{KeepsPins, owns, IsPinnedBy, ArePinned}
+use Rattle.go_core.specs.Pins.{is_named, has_name, owns_name}
+use Rattle.go_core.specs.Parts.{KeepsPins, IsPinnedBy, ArePinned}
 use Rattle.go_core.proofs.Lookups.{lookup-get_or, lookup-set_other, lookup-same}
 use Rattle.go_core.proofs.PinLaws.{named_in, has-in, has-pin, has-append}
 use Rattle.go_core.proofs.TurnLaws.{bit_of, count-set, count-push, not_two, count-none}
@@ -55,14 +55,14 @@ named_passes test all id is = let found = has-pin id (filter test all) is in (fo
 
 module _ {S : Type 0} (pins put : S → List Pin) (has : S → Bool) where
   -- one party has other pins, and no name more
-  pub pinned_set : (held : List Pin) (parties : List S) (i : ℕ) (s s' : S) → get_elem? parties i ≡ some s → IsPinnedBy pins put has held s' → ((id : ℕ) → owns pins put id s' ≡ true → owns pins put id s ≡ true) → ArePinned pins put has held parties → ArePinned pins put has held (set parties i s')
+  pub pinned_set : (held : List Pin) (parties : List S) (i : ℕ) (s s' : S) → get_elem? parties i ≡ some s → IsPinnedBy pins put has held s' → ((id : ℕ) → owns_name id (pins s') (put s') ≡ true → owns_name id (pins s) (put s) ≡ true) → ArePinned pins put has held parties → ArePinned pins put has held (set parties i s')
   pinned_set held parties i s s' there one fewer are =
       record {
         each = All-set (IsPinnedBy pins put has held) parties i s' one are.each;
         apart = λ id.
-            (let change = count-set (owns pins put id) parties i s s' there in
+            (let change = count-set (λ x. owns_name id (pins x) (put x)) parties i s s' there in
             let few = are.apart id in
-            let less = bit_le (owns pins put id s') (owns pins put id s) (fewer id) in
+            let less = bit_le (owns_name id (pins s') (put s')) (owns_name id (pins s) (put s)) (fewer id) in
             omega arith);
       }
 
@@ -73,10 +73,10 @@ module _ {S : Type 0} (pins put : S → List Pin) (has : S → Bool) where
         each = All-push (IsPinnedBy pins put has held) parties s are.each
             (record { pinned = λ free. subst (All (Contains held)) (sym none) (All-nil (Contains held)); none_put = λ free. none_put });
         apart = λ id.
-            (let change = count-push (owns pins put id) parties s in
+            (let change = count-push (λ x. owns_name id (pins x) (put x)) parties s in
             let few = are.apart id in
-            let no_name : owns pins put id s ≡ false = ap (λ ps. has_name id ps || has_name id (put s)) none ∙ ap (λ ps. has_name id ps) none_put in
-            let nothing : bit_of (owns pins put id s) ≡ 0 = ap bit_of no_name in
+            let no_name : owns_name id (pins s) (put s) ≡ false = ap (λ ps. has_name id ps || has_name id (put s)) none ∙ ap (λ ps. has_name id ps) none_put in
+            let nothing : bit_of (owns_name id (pins s) (put s)) ≡ 0 = ap bit_of no_name in
             omega arith);
       }
 
@@ -94,35 +94,35 @@ module _ {S : Type 0} (pins put : S → List Pin) (has : S → Bool) where
             }) are.each);
         apart = λ id.
             (let other' : get_elem? (set parties i both) j ≡ some o = lookup-set_other parties i j both ne ∙ other in
-            let first = count-set (owns pins put id) parties i s both there in
-            let second = count-set (owns pins put id) (set parties i both) j o gone other' in
+            let first = count-set (λ x. owns_name id (pins x) (put x)) parties i s both there in
+            let second = count-set (λ x. owns_name id (pins x) (put x)) (set parties i both) j o gone other' in
             let few = are.apart id in
-            let no_name : owns pins put id gone ≡ false = ap (λ ps. has_name id ps || has_name id (put gone)) none ∙ ap (λ ps. has_name id ps) none_put in
-            let nothing : bit_of (owns pins put id gone) ≡ 0 = ap bit_of no_name in
-            let sum = bit_sum (owns pins put id both) (owns pins put id s) (owns pins put id o) (λ is. joined_name id s o both all_pins as_put is) in
+            let no_name : owns_name id (pins gone) (put gone) ≡ false = ap (λ ps. has_name id ps || has_name id (put gone)) none ∙ ap (λ ps. has_name id ps) none_put in
+            let nothing : bit_of (owns_name id (pins gone) (put gone)) ≡ 0 = ap bit_of no_name in
+            let sum = bit_sum (owns_name id (pins both) (put both)) (owns_name id (pins s) (put s)) (owns_name id (pins o) (put o)) (λ is. joined_name id s o both all_pins as_put is) in
             omega arith);
       }
     where
-      joined_name : (id : ℕ) (s o both : S) → pins both ≡ pins s ++ pins o → put both ≡ put s → owns pins put id both ≡ true → (owns pins put id s || owns pins put id o) ≡ true
+      joined_name : (id : ℕ) (s o both : S) → pins both ≡ pins s ++ pins o → put both ≡ put s → owns_name id (pins both) (put both) ≡ true → (owns_name id (pins s) (put s) || owns_name id (pins o) (put o)) ≡ true
       joined_name id s o both all_pins as_put is =
           ⊎_elim
           (λ in_pins.
-          ⊎_elim (λ mine. or_left (owns pins put id s) (owns pins put id o) (or_left (has_name id (pins s)) (has_name id (put s)) mine))
-          (λ theirs. or_right (owns pins put id s) (owns pins put id o) (or_left (has_name id (pins o)) (has_name id (put o)) theirs))
+          ⊎_elim (λ mine. or_left (owns_name id (pins s) (put s)) (owns_name id (pins o) (put o)) (or_left (has_name id (pins s)) (has_name id (put s)) mine))
+          (λ theirs. or_right (owns_name id (pins s) (put s)) (owns_name id (pins o) (put o)) (or_left (has_name id (pins o)) (has_name id (put o)) theirs))
           (or_cases (has_name id (pins s)) (has_name id (pins o)) (sym (has-append id (pins s) (pins o)) ∙ ap (has_name id) (sym all_pins) ∙ in_pins)))
-          (λ in_put. or_left (owns pins put id s) (owns pins put id o) (or_right (has_name id (pins s)) (has_name id (put s)) (ap (has_name id) (sym as_put) ∙ in_put)))
+          (λ in_put. or_left (owns_name id (pins s) (put s)) (owns_name id (pins o) (put o)) (or_right (has_name id (pins s)) (has_name id (put s)) (ap (has_name id) (sym as_put) ∙ in_put)))
           (or_cases (has_name id (pins both)) (has_name id (put both)) is)
 
   -- the party that has the turn puts the shard in
-  module _ (parties : List S) (i : ℕ) (s s' : S) (archived : ℕ) (old new : PartState) (there : get_elem? parties i ≡ some s) (mine : has s ≡ true) (few : count_by has parties ≤ 1) (keeps : KeepsPins archived (λ id. owns pins put id s) old new) (are : ArePinned pins put has old.pins parties) where
+  module _ (parties : List S) (i : ℕ) (s s' : S) (archived : ℕ) (old new : PartState) (there : get_elem? parties i ≡ some s) (mine : has s ≡ true) (few : count_by has parties ≤ 1) (keeps : KeepsPins archived (λ id. owns_name id (pins s) (put s)) old new) (are : ArePinned pins put has old.pins parties) where
     -- another party has no turn
     no_turn : (k : ℕ) (t : S) → k ≢ i → get_elem? parties k ≡ some t → has t ≡ false
     no_turn k t ne other = ⊎_elim (λ theirs. absurd (not_two has parties i k s t ne there other few mine theirs)) (λ free. free) (cases_Bool (has t))
 
     -- and a name of its pins isn't that of the party with the turn
-    not_mine : (k : ℕ) (t : S) (id : ℕ) → k ≢ i → get_elem? parties k ≡ some t → owns pins put id t ≡ true → owns pins put id s ≡ false
+    not_mine : (k : ℕ) (t : S) (id : ℕ) → k ≢ i → get_elem? parties k ≡ some t → owns_name id (pins t) (put t) ≡ true → owns_name id (pins s) (put s) ≡ false
     not_mine k t id ne other theirs =
-        ⊎_elim (λ (own : owns pins put id s ≡ true). absurd (not_two (owns pins put id) parties i k s t ne there other (are.apart id) own theirs)) (λ free. free) (cases_Bool (owns pins put id s))
+        ⊎_elim (λ (own : owns_name id (pins s) (put s) ≡ true). absurd (not_two (λ x. owns_name id (pins x) (put x)) parties i k s t ne there other (are.apart id) own theirs)) (λ free. free) (cases_Bool (owns_name id (pins s) (put s)))
 
     -- so what another party holds is still there
     still_held : All (IsPinnedBy pins put has new.pins) parties
@@ -135,22 +135,22 @@ module _ {S : Type 0} (pins put : S → List Pin) (has : S → Bool) where
               let ne : k ≢ i = λ same. apart (has t) (ap has (lookup-same parties i t s (sym (ap (get_elem? parties) same) ∙ other) there) ∙ mine) free in
               let held : Contains old.pins pin = (are.each k d within).pinned free q e inside in
               let named : has_name pin.id (pins t) ≡ true = has-in (pins t) pin (Contains-get_or (pins t) q e inside) in
-              let not' : owns pins put pin.id s ≡ false = not_mine k t pin.id ne other (or_left (has_name pin.id (pins t)) (has_name pin.id (put t)) named) in
-              let stays : find (is_named pin.id) new.pins ≡ Some pin = All-contains (λ x. owns pins put x.id s ≡ false → find (is_named x.id) new.pins ≡ Some x) old.pins pin keeps.others held not' in
+              let not' : owns_name pin.id (pins s) (put s) ≡ false = not_mine k t pin.id ne other (or_left (has_name pin.id (pins t)) (has_name pin.id (put t)) named) in
+              let stays : find (is_named pin.id) new.pins ≡ Some pin = All-contains (λ x. owns_name x.id (pins s) (put s) ≡ false → find (is_named x.id) new.pins ≡ Some x) old.pins pin keeps.others held not' in
               (named_in pin.id new.pins pin stays).0);
           none_put = (are.each k d within).none_put;
         }
 
     -- a new name was nobody's
-    nobody : (id : ℕ) → owns pins put id s ≡ false → has_name id old.pins ≡ false → count_by (owns pins put id) parties ≡ 0
+    nobody : (id : ℕ) → owns_name id (pins s) (put s) ≡ false → has_name id old.pins ≡ false → count_by (λ x. owns_name id (pins x) (put x)) parties ≡ 0
     nobody id not' fresh =
-        count-none (owns pins put id) parties
+        count-none (λ x. owns_name id (pins x) (put x)) parties
         (λ k d within.
         (let t = get_or parties k d in
         let other : get_elem? parties k ≡ some t = lookup-get_or parties k d within in
         ⊎_elim
-        (λ (theirs : owns pins put id t ≡ true).
-        let ne : k ≢ i = λ same. apart (owns pins put id t) theirs (ap (owns pins put id) (lookup-same parties i t s (sym (ap (get_elem? parties) same) ∙ other) there) ∙ not') in
+        (λ (theirs : owns_name id (pins t) (put t) ≡ true).
+        let ne : k ≢ i = λ same. apart (owns_name id (pins t) (put t)) theirs (ap (λ x. owns_name id (pins x) (put x)) (lookup-same parties i t s (sym (ap (get_elem? parties) same) ∙ other) there) ∙ not') in
         let free : has t ≡ false = no_turn k t ne other in
         let one = are.each k d within in
         let named : has_name id (pins t) ≡ true =
@@ -160,32 +160,32 @@ module _ {S : Type 0} (pins put : S → List Pin) (has : S → Bool) where
         let held : Contains old.pins found.0 = All-contains (Contains old.pins) (pins t) found.0 (one.pinned free) found.1 in
         let there' : has_name id old.pins ≡ true = ap (λ n. has_name n old.pins) (sym found.2) ∙ has-in old.pins found.0 held in
         absurd (apart (has_name id old.pins) there' fresh))
-        (λ none. none) (cases_Bool (owns pins put id t))))
+        (λ none. none) (cases_Bool (owns_name id (pins t) (put t)))))
 
-    pub pinned_put : has s' ≡ true → pins s' ≡ pins s → put s' ≡ filter (λ pin. owns pins put pin.id s || not (has_name pin.id old.pins)) new.pins → ArePinned pins put has new.pins (set parties i s')
+    pub pinned_put : has s' ≡ true → pins s' ≡ pins s → put s' ≡ filter (λ pin. owns_name pin.id (pins s) (put s) || not (has_name pin.id old.pins)) new.pins → ArePinned pins put has new.pins (set parties i s')
     pinned_put turn same_pins is_put =
-        let test : Pin → Bool = λ pin. owns pins put pin.id s || not (has_name pin.id old.pins) in
+        let test : Pin → Bool = λ pin. owns_name pin.id (pins s) (put s) || not (has_name pin.id old.pins) in
         record {
           each = All-set (IsPinnedBy pins put has new.pins) parties i s' (record { pinned = λ free. absurd (apart (has s') turn free); none_put = λ free. absurd (apart (has s') turn free) }) still_held;
           apart = λ id.
-              (let change = count-set (owns pins put id) parties i s s' there in
+              (let change = count-set (λ x. owns_name id (pins x) (put x)) parties i s s' there in
               let before = are.apart id in
               ⊎_elim
-              (λ (now : owns pins put id s' ≡ true).
-              let one : bit_of (owns pins put id s') ≡ 1 = ap bit_of now in
-              ⊎_elim (λ (own : owns pins put id s ≡ true). let was : bit_of (owns pins put id s) ≡ 1 = ap bit_of own in omega arith)
-              (λ (not' : owns pins put id s ≡ false).
+              (λ (now : owns_name id (pins s') (put s') ≡ true).
+              let one : bit_of (owns_name id (pins s') (put s')) ≡ 1 = ap bit_of now in
+              ⊎_elim (λ (own : owns_name id (pins s) (put s) ≡ true). let was : bit_of (owns_name id (pins s) (put s)) ≡ 1 = ap bit_of own in omega arith)
+              (λ (not' : owns_name id (pins s) (put s) ≡ false).
               let neither = or_neither (has_name id (pins s)) (has_name id (put s)) not' in
               let in_put : has_name id (put s') ≡ true =
               ⊎_elim (λ in_pins. absurd (apart (has_name id (pins s)) (ap (has_name id) (sym same_pins) ∙ in_pins) neither.0)) (λ in_put. in_put) (or_cases (has_name id (pins s')) (has_name id (put s')) now)
               in
               let found = named_passes test new.pins id (ap (has_name id) (sym is_put) ∙ in_put) in
-              let passed : (owns pins put id s || not (has_name id old.pins)) ≡ true = ap (λ n. owns pins put n s || not (has_name n old.pins)) (sym found.2) ∙ found.1 in
+              let passed : (owns_name id (pins s) (put s) || not (has_name id old.pins)) ≡ true = ap (λ n. owns_name n (pins s) (put s) || not (has_name n old.pins)) (sym found.2) ∙ found.1 in
               let fresh : has_name id old.pins ≡ false =
-              ⊎_elim (λ own. absurd (apart (owns pins put id s) own not')) (λ new'. not_true (has_name id old.pins) new') (or_cases (owns pins put id s) (not (has_name id old.pins)) passed)
+              ⊎_elim (λ own. absurd (apart (owns_name id (pins s) (put s)) own not')) (λ new'. not_true (has_name id old.pins) new') (or_cases (owns_name id (pins s) (put s)) (not (has_name id old.pins)) passed)
               in
               let zero' = nobody id not' fresh in
-              let was : bit_of (owns pins put id s) ≡ 0 = ap bit_of not' in
-              omega arith) (cases_Bool (owns pins put id s)))
-              (λ (none : owns pins put id s' ≡ false). let nothing : bit_of (owns pins put id s') ≡ 0 = ap bit_of none in omega arith) (cases_Bool (owns pins put id s')));
+              let was : bit_of (owns_name id (pins s) (put s)) ≡ 0 = ap bit_of not' in
+              omega arith) (cases_Bool (owns_name id (pins s) (put s))))
+              (λ (none : owns_name id (pins s') (put s') ≡ false). let nothing : bit_of (owns_name id (pins s') (put s')) ≡ 0 = ap bit_of none in omega arith) (cases_Bool (owns_name id (pins s') (put s'))));
         }

@@ -11,10 +11,10 @@ use Rattle.go_core.specs.declared.party.Party.{Party}
 use Rattle.go_core.specs.declared.stake.Stake.{Stake}
 use Rattle.go_core.specs.Frame.{archived_in, durable_in}
 use Rattle.go_core.specs.View.{unmoved}
-use Rattle.go_core.specs.Pins.{has_name}
+use Rattle.go_core.specs.Pins.{has_name, owns_name}
 use Rattle.go_core.specs.Rule.{IsWritten, TiedBy}
 use Rattle.go_core.specs.Parts.{Reaches, ArePartsOf, IsTurn, ArePinned, IsPinnedBy}
-use Rattle.go_core.specs.Turns.{hold_of, home_of, with_home, turn_place, having_turn, owns_name, putting, giving}
+use Rattle.go_core.specs.Turns.{hold_of, home_of, with_home, turn_place, having_turn, putting, giving}
 use Rattle.go_core.specs.Acts.{IsLawful}
 use Rattle.go_core.specs.Machine.{Machine, AreParted, views_of, stakes_of, states_of, turn_in, party_at, with_word, with_stake, with_part, with_view}
 use Rattle.go_core.proofs.Claims.{All-lookup, word_here, word_other}
@@ -75,7 +75,7 @@ module _ (m : Machine) (i : ℕ) (s' : Stake) (words' : List ℕ) (parts' : Part
       let one : IsPinnedBy (λ (z : Stake). z.pins) (λ z. z.put) (λ z. z.shard.turn) held s = All-lookup (IsPinnedBy (λ (z : Stake). z.pins) (λ z. z.put) (λ z. z.shard.turn) held) (stakes_of m.parties) i s are.pinned.each (stake_there m i live) in
       pinned_set (λ (z : Stake). z.pins) (λ z. z.put) (λ z. z.shard.turn) held (stakes_of m.parties) i s s' (stake_there m i live)
       (record { pinned = λ free. subst (All (Contains held)) (sym pins) (one.pinned (turn free)); none_put = λ free. put ∙ one.none_put (turn free) })
-      (λ id is. ap (λ ps. owns_name id (record s { pins = ps })) (sym pins) ∙ ap (λ ps. owns_name id (record s' { put = ps })) (sym put) ∙ is) are.pinned
+      (λ id is. ap (λ ps. owns_name id ps s.put) (sym pins) ∙ ap (λ ps. owns_name id s'.pins ps) (sym put) ∙ is) are.pinned
 
   -- it knows a part as it did
   same_front : (part : Bool) → (hold_of part s').front ≡ (hold_of part (party_at m i).stake).front → All (λ s. (hold_of part s).front ≤ (home_of part m.parts).part.front) (set (stakes_of m.parties) i s')
@@ -172,7 +172,7 @@ put_parted m i true state log live turn lawful tied are =
     let front_from = lawful.onward.front_from in
     let reach : Reaches state log = up_to_either state.front old.front v.taken (length log) lawful.onward.front_to (are.parts.of_log 0 old refl).stands (taken_within m i log live tied) in
     let parts : ArePartsOf st Reaches m.frame log (archived_in m.words) (durable_in m.words) (views_of m.parties) (states_of parts') =
-    shard_put st Reaches m.frame log (archived_in m.words) (durable_in m.words) (views_of m.parties) (states_of m.parts) 0 old state refl are.parts v.taken v.archived (λ id. owns_name id s) (omega arith) seat.archived_to
+    shard_put st Reaches m.frame log (archived_in m.words) (durable_in m.words) (views_of m.parties) (states_of m.parts) 0 old state refl are.parts v.taken v.archived (λ id. owns_name id s.pins s.put) (omega arith) seat.archived_to
     (λ p less. seat.seen_written p (omega arith)) reach lawful
     in
     stake_step m i s' m.words parts' log live are refl refl parts
@@ -214,7 +214,7 @@ given_parted m i true log live long turn home are =
     let s' = giving true part s in
     let stakes = stakes_of m.parties in
     let words' = set m.words 4 0 in
-    let own : Pin → Bool = λ pin. owns_name pin.id s in
+    let own : Pin → Bool = λ pin. owns_name pin.id s.pins s.put in
     let given : IsTurn (has_turn true) 0 (set stakes i s') = turn_given (has_turn true) stakes i s s' (turn_in true m.words) (stake_there m i live) turn refl (are.turns true) in
     let here : turn_in true words' ≡ 0 = turn_here true m.words 0 long in
     let other : turn_in false words' ≡ turn_in false m.words = word_other m.words 4 5 0 (λ e. omega arith) in
@@ -227,7 +227,7 @@ given_parted m i true log live long turn home are =
     (pinned_set (λ (z : Stake). z.pins) (λ z. z.put) (λ z. z.shard.turn) part.pins stakes i s s' (stake_there m i live)
     (record { pinned = λ free. All-filter own (Contains part.pins) part.pins (All-contains_itself part.pins); none_put = λ free. refl })
     (λ id is.
-    ⊎_elim (λ in_pins. let found = named_passes own part.pins id in_pins in ap (λ n. owns_name n s) (sym found.2) ∙ found.1) (λ in_put. absurd (apart false in_put refl)) (or_cases (has_name id (filter own part.pins)) (has_name id []) is))
+    ⊎_elim (λ in_pins. let found = named_passes own part.pins id in_pins in ap (λ n. owns_name n s.pins s.put) (sym found.2) ∙ found.1) (λ in_put. absurd (apart false in_put refl)) (or_cases (has_name id (filter own part.pins)) (has_name id []) is))
     are.pinned)
 given_parted m i false log live long turn home are =
     let s = (party_at m i).stake in

@@ -7,8 +7,9 @@ use Rattle.go_core.specs.declared.part.PartState.{PartState}
 use Rattle.go_core.specs.declared.home.Parts.{Parts}
 use Rattle.go_core.specs.declared.stake.Stake.{Stake}
 use Rattle.go_core.specs.Frame.{Frame, head_in, archived_in, durable_in}
+use Rattle.go_core.specs.Pins.{owns_name}
 use Rattle.go_core.specs.Parts.{IsSuccessor, IsFileSuccessor}
-use Rattle.go_core.specs.Turns.{hold_of, home_of, owns_name}
+use Rattle.go_core.specs.Turns.{hold_of, home_of}
 
 -- edges may be claimed: one to 64 that words can hold, with room for them in the log
 pub record CanClaim (words : List ℕ) (edges : List Edge) : Type 0 where
@@ -59,7 +60,7 @@ pub record HasAtHome (parts : Parts) (stake : Stake) (part : ℕ) : Type 0 where
 
 -- a part may be given back as another
 abbrev pub IsLawful : Bool → View → Stake → PartState → PartState → Type 0
-IsLawful true v stake old new = IsSuccessor v.taken v.archived (λ id. owns_name id stake) old new
+IsLawful true v stake old new = IsSuccessor v.taken v.archived (λ id. owns_name id stake.pins stake.put) old new
 IsLawful false v stake old new = IsFileSuccessor v.taken old new
 
 -- a part may be put in: by the party that took it out

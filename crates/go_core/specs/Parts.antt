@@ -1,12 +1,12 @@
 -- The clauses on the parts: the shards and the file that hold what the workers took, their turns and their pins.
-use Rattle.std.specs.Prelude.{◌≡◌, ◌⊎◌, ℕ, ◌+◌, ◌<◌, ◌≤◌, max, Bool, true, false, ◌||◌, List, [], ◌++◌, length, All, Contains, count_by, find, Option, Some, None, slice_get}
+use Rattle.std.specs.Prelude.{◌≡◌, ◌⊎◌, ℕ, ◌+◌, ◌<◌, ◌≤◌, max, Bool, true, false, List, [], ◌++◌, length, All, Contains, count_by, find, Option, Some, None, slice_get}
 use Rattle.std.proofs.Common.{arith, length-append}
 use Rattle.go_word.specs.declared.edge.Edge.{Edge}
 use Rattle.go_core.specs.declared.pin.Pin.{Pin}
 use Rattle.go_core.specs.declared.part.PartState.{PartState}
 use Rattle.go_core.specs.declared.view.View.{View}
 use Rattle.go_core.specs.Frame.{Frame}
-use Rattle.go_core.specs.Pins.{is_named, has_name}
+use Rattle.go_core.specs.Pins.{is_named, owns_name}
 use Rattle.go_core.specs.Rule.{IsWritten}
 
 -- the moment of a disk, and the count of its faults
@@ -94,10 +94,6 @@ module _ {S : Type 0} (has : S → Bool) where
 
 -- by its pins, and those that it put in since it took the shard's turn
 module _ {S : Type 0} (pins put : S → List Pin) where
-  -- a name of a pin is the party's
-  abbrev pub owns : ℕ → S → Bool
-  owns id s = has_name id (pins s) || has_name id (put s)
-
   -- a shard has each pin that a party holds, but of the one that has its turn
   pub record IsPinnedBy (has : S → Bool) (held : List Pin) (s : S) : Type 0 where
     pub pinned : has s ≡ false → All (Contains held) (pins s)
@@ -106,4 +102,4 @@ module _ {S : Type 0} (pins put : S → List Pin) where
   -- and no name is that of two parties
   pub record ArePinned (has : S → Bool) (held : List Pin) (parties : List S) : Type 0 where
     pub each : All (IsPinnedBy has held) parties
-    pub apart : (id : ℕ) → count_by (owns id) parties ≤ 1
+    pub apart : (id : ℕ) → count_by (λ s. owns_name id (pins s) (put s)) parties ≤ 1

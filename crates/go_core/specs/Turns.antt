@@ -6,7 +6,7 @@ use Rattle.go_core.specs.declared.home.Home.{Home}
 use Rattle.go_core.specs.declared.home.Parts.{Parts}
 use Rattle.go_core.specs.declared.stake.Hold.{Hold}
 use Rattle.go_core.specs.declared.stake.Stake.{Stake}
-use Rattle.go_core.specs.Pins.{has_name}
+use Rattle.go_core.specs.Pins.{has_name, owns_name}
 
 -- what a party knows of a part
 abbrev pub hold_of : Bool → Stake → Hold
@@ -33,13 +33,9 @@ abbrev pub having_turn : Bool → Stake → Stake
 having_turn true s = record s { shard = record { front = s.shard.front; turn = true } }
 having_turn false s = record s { file = record { front = s.file.front; turn = true } }
 
--- a pin of this name is the party's: its view holds it, or it was put in since the party took the turn
-abbrev pub owns_name : ℕ → Stake → Bool
-owns_name id s = has_name id s.pins || has_name id s.put
-
 -- a pin that is put in is the party's where it owned it, or where it is new
 abbrev pub is_mine : Stake → List Pin → Pin → Bool
-is_mine s old pin = owns_name pin.id s || not (has_name pin.id old)
+is_mine s old pin = owns_name pin.id s.pins s.put || not (has_name pin.id old)
 
 -- after a part was put in, whose pins were `old` and are `new`
 abbrev pub putting : Bool → List Pin → List Pin → Stake → Stake
@@ -48,5 +44,5 @@ putting false old new s = s
 
 -- after a turn was given back: the part's front is known, and its pins that are the party's are those of its view
 abbrev pub giving : Bool → PartState → Stake → Stake
-giving true part s = record s { pins = filter (λ pin. owns_name pin.id s) part.pins; put = []; shard = record { front = part.front; turn = false } }
+giving true part s = record s { pins = filter (λ pin. owns_name pin.id s.pins s.put) part.pins; put = []; shard = record { front = part.front; turn = false } }
 giving false part s = record s { file = record { front = part.front; turn = false } }

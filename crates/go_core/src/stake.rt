@@ -1,9 +1,9 @@
 // What a party knows of the parts, whose turns it has, and which pins are its own.
 ghost use Rattle.std.specs.Prelude.{◌≡◌, ◌∷◌, length, filter, IfOk, OnOk, OnErr};
+ghost use Rattle.go_core.specs.Pins.{owns_name};
 ghost use Rattle.go_core.specs.Turns.{
   hold_of,
   having_turn,
-  owns_name,
   is_mine as is_mine_pin,
   putting,
   giving,
@@ -57,7 +57,7 @@ impl Stake {
 
     // Whether a pin of this name is its own.
     pub(crate) fn owns(&self, id: u64) -> bool
-        ensures { result ≡ owns_name id self.now }
+        ensures { result ≡ owns_name id self.now.pins self.now.put }
     {
         pin::find_held(&self.pins, id).is_some() || pin::find_held(&self.put, id).is_some()
     }
@@ -84,7 +84,7 @@ impl Stake {
 
     // The pins of a shard that are the party's.
     fn owned(&self, alloc: Global, pins: &[Pin]) -> Result<LinkedList<Pin>, AllocError>
-        ensures { IfOk result (λ list. list ≡ filter (λ pin. owns_name pin.id self.now) pins.now) }
+        ensures { IfOk result (λ list. list ≡ filter (λ pin. owns_name pin.id self.now.pins self.now.put) pins.now) }
     {
         let mut list = LinkedList::new(alloc);
         for pin in pins {

@@ -11,9 +11,8 @@ ghost use Rattle.std.specs.Prelude.{
   find,
   count_by,
 };
-ghost use Rattle.go_core.specs.Pins.{is_named};
+ghost use Rattle.go_core.specs.Pins.{is_named, owns_name};
 ghost use Rattle.go_core.specs.Parts.{Follows, GoesOnward, KeepsPins, IsSuccessor, IsFileSuccessor};
-ghost use Rattle.go_core.specs.Turns.{owns_name};
 
 use crate::part::PartState;
 use crate::pin::{self, Pin};
@@ -53,14 +52,14 @@ fn are_named(pins: &[Pin], among: &[Pin]) -> bool
 
 // Whether a pin is another party's no more, or stays as it is.
 fn stays(stake: &Stake, pin: &Pin, new: &[Pin]) -> bool
-    ensures { IsTrue result ↔ (owns_name pin.now.id stake.now ≡ false → find (is_named pin.now.id) new.now ≡ Some pin.now) }
+    ensures { IsTrue result ↔ (owns_name pin.now.id stake.now.pins stake.now.put ≡ false → find (is_named pin.now.id) new.now ≡ Some pin.now) }
 {
     stake.owns(pin.id) || pin::find_named(new, pin.id) == Some(*pin)
 }
 
 // Whether all pins of the other parties stay.
 fn others_stay(stake: &Stake, old: &[Pin], new: &[Pin]) -> bool
-    ensures { IsTrue result ↔ All (λ pin. owns_name pin.id stake.now ≡ false → find (is_named pin.id) new.now ≡ Some pin) old.now }
+    ensures { IsTrue result ↔ All (λ pin. owns_name pin.id stake.now.pins stake.now.put ≡ false → find (is_named pin.id) new.now ≡ Some pin) old.now }
 {
     for pin in old {
         if !stays(stake, pin, new) {
@@ -84,7 +83,7 @@ fn follows(cut: u64, archived: u64, own: bool, before: Option<Pin>, pin: &Pin) -
 
 // Whether each pin may stand.
 fn all_follow(cut: u64, archived: u64, stake: &Stake, old: &[Pin], new: &[Pin]) -> bool
-    ensures { IsTrue result ↔ All (λ pin. Follows cut archived (owns_name pin.id stake.now) (find (is_named pin.id) old.now) pin) new.now }
+    ensures { IsTrue result ↔ All (λ pin. Follows cut archived (owns_name pin.id stake.now.pins stake.now.put) (find (is_named pin.id) old.now) pin) new.now }
 {
     for pin in new {
         let before = pin::find_named(old, pin.id);
@@ -107,7 +106,7 @@ fn goes_onward(view: &View, old: &PartState, new: &PartState) -> bool
 
 // Whether the pins of a shard stand as they may, by its cut before and after.
 fn keeps_pins(view: &View, stake: &Stake, old: &PartState, new: &PartState) -> bool
-    ensures { IsTrue result ↔ KeepsPins view.now.archived (λ id. owns_name id stake.now) old.now new.now }
+    ensures { IsTrue result ↔ KeepsPins view.now.archived (λ id. owns_name id stake.now.pins stake.now.put) old.now new.now }
 {
     let before = old.pins.as_slice();
     let after = new.pins.as_slice();
@@ -125,7 +124,7 @@ fn keeps_pins(view: &View, stake: &Stake, old: &PartState, new: &PartState) -> b
 
 // Whether a shard may be given back as another.
 pub(crate) fn is_successor(view: &View, stake: &Stake, old: &PartState, new: &PartState) -> bool
-    ensures { IsTrue result ↔ IsSuccessor view.now.taken view.now.archived (λ id. owns_name id stake.now) old.now new.now }
+    ensures { IsTrue result ↔ IsSuccessor view.now.taken view.now.archived (λ id. owns_name id stake.now.pins stake.now.put) old.now new.now }
 {
     goes_onward(view, old, new) && keeps_pins(view, stake, old, new)
 }
