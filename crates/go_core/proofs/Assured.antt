@@ -1,7 +1,7 @@
 -- What words that were read ahead of their turn tell over a run, once a front at or below them was read.
-use Rattle.std.proofs.Common.{◌≡◌, ℕ, zero, suc, ◌+◌, ◌<◌, ◌≤◌, Bool, true, false, List, [], ◌∷◌, ◌++◌, sym, refl, ap, ◌∙◌, ⊎_elim, arith, subst, append_assoc}
+use Rattle.std.proofs.Common.{◌≡◌, ℕ, zero, suc, ◌+◌, ◌<◌, ◌≤◌, true, false, List, [], ◌∷◌, ◌++◌, sym, refl, ap, ◌∙◌, ⊎_elim, arith, subst, append_assoc}
 use Rattle.std.specs.Prelude.{All}
-use Rattle.std.proofs.lemmas.Bool.{cases_lt}
+use Rattle.std.proofs.lemmas.Bool.{cases_lt, both_ways}
 use Rattle.std.proofs.lemmas.List.Elements.{All-nil, All-weaker}
 use mathlib.Core.Option.{some, some-injective, some-ne-none}
 use lib.ListN.{get_elem?}
@@ -26,10 +26,6 @@ use Rattle.go_core.proofs.Parted.{party_there}
 use Rattle.go_core.proofs.Rows.{row_keeps}
 use Rattle.go_core.proofs.Ready.{seated_or_absent}
 use Rattle.go_core.proofs.Runs.{row_frame, row_released}
-
--- one test has one outcome
-apart : (b : Bool) → b ≡ true → b ≡ false → ⊥
-apart b yes' no' = cc
 
 -- the answer of a front that was read is the front, which is never below what is released
 front_answer : (front : ℕ) (after m : Machine) (condition : Type 0) (n : ℕ) (now : Machine) → released m.words ≤ front → Does condition (Number front) after m (Number n) now → released m.words ≤ n
@@ -99,7 +95,7 @@ row_copied m i p x now log row tied from =
           let found = lookup-some log p written.within in
           let holds : slot m.frame m.words p ≡ word m.frame.slots p found.0 = r.holds p found.0 from inside written found.1 in
           let matched : is_matched m.frame.slots p x ≡ true = ap (is_matched m.frame.slots p) (is ∙ holds) ∙ is_matched-word m.frame.slots p found.0 (t.storable p found.0 (omega arith) found.1) in
-          absurd (apart (is_matched m.frame.slots p x) matched unmatched))
+          absurd (both_ways (is_matched m.frame.slots p x) unmatched matched))
           (λ (unseen : v.seen ≤ p). unseen) (cases_lt p v.seen)),
     ))
     (λ not. absurd (refused x not.1)) row

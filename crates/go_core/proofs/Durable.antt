@@ -1,7 +1,7 @@
 -- Steps on the durable front, and words that are read ahead of their turn.
 use Rattle.std.proofs.Common.{◌≡◌, ℕ, ◌+◌, ◌<◌, ◌≤◌, true, false, List, set, sym, refl, inl, inr, ◌∙◌, ⊎_elim, arith, subst}
 use Rattle.std.specs.Prelude.{sum_by, max}
-use Rattle.std.proofs.lemmas.Bool.{cases_lt}
+use Rattle.std.proofs.lemmas.Bool.{cases_lt, false≢true}
 use Rattle.std.proofs.lemmas.List.{length-set}
 use mathlib.Core.Option.{some}
 use lib.ListN.{get_elem?}
@@ -57,7 +57,7 @@ durable_stored f log words views i v front there live role from to tied =
     in
     -- what the rule says of the party but for its role
     let bare : View = record v { flushes = false } in
-    let s = seated_onward f log words views log words' views' on bare (λ role'. archived) (λ none. absurd (apart none))
+    let s = seated_onward f log words views log words' views' on bare (λ role'. archived) (λ none. absurd (false≢true none))
     (record {
       spent_else = λ dead. still_live v _ live dead;
       taken_from = s0.taken_from;
@@ -69,8 +69,8 @@ durable_stored f log words views i v front there live role from to tied =
       durable_to = s0.durable_to;
       archiver_knows = s0.archiver_knows;
       archiver_took = s0.archiver_took;
-      flusher_knows = λ none. absurd (apart none);
-      flusher_took = λ none. absurd (apart none);
+      flusher_knows = λ none. absurd (false≢true none);
+      flusher_took = λ none. absurd (false≢true none);
       pending_of = s0.pending_of;
       abandoned_of = s0.abandoned_of;
       flagged = s0.flagged;
@@ -117,9 +117,6 @@ durable_stored f log words views i v front there live role from to tied =
       flag = subst (λ k. IsFlag k views') (sym flag)
           (flag_same (flag_in words) views views' (count_alike (λ u. u.disk_raised) views i v w there refl) (count_alike (λ u. u.memory_raised) views i v w there refl) tied.flag);
     }
-  where
-    apart : false ≡ true → ⊥
-    apart e = cc
 
 -- a load of the durable front
 pub durable_loaded : (f : Frame) (log : List Edge) (words : List ℕ) (views : List View) (i : ℕ) (v : View) → get_elem? views i ≡ some v → v.live ≡ true → TiedBy f log words views → TiedBy f log words (set views i (knowing_durable (durable_in words) v))

@@ -1,7 +1,8 @@
 -- A store of the flag, and what a word that was read ahead tells once it is sure.
-use Rattle.std.proofs.Common.{◌≡◌, ℕ, ◌<◌, ◌≤◌, Bool, true, false, cond, List, set, sym, refl, ap, ◌∙◌, ⊎_elim, arith, subst}
-use Rattle.std.specs.Prelude.{sum_by, count_by, ◌||◌, ◌==◌}
+use Rattle.std.proofs.Common.{◌≡◌, ℕ, ◌<◌, ◌≤◌, Bool, true, cond, List, set, sym, refl, ap, ◌∙◌, ⊎_elim, arith, subst}
+use Rattle.std.specs.Prelude.{sum_by, count_by, ◌==◌}
 use Rattle.std.proofs.lemmas.List.{length-set}
+use Rattle.std.proofs.lemmas.Bool.{both_ways, or_right}
 use mathlib.Core.Option.{some}
 use lib.ListN.{get_elem?}
 use Rattle.go_word.specs.declared.edge.Edge.{Edge}
@@ -20,10 +21,7 @@ use Rattle.go_core.proofs.Claims.{word_other, word_here}
 
 -- a sure load tells what it told for good
 pub sure_tells : (f : Frame) (log : List Edge) (words : List ℕ) (views : List View) (marked : ℕ) (l : Load) → l.sure ≡ true → IsSound f log words views marked l → Tells f log views marked l
-sure_tells f log words views marked l sure sound = ⊎_elim (λ late. absurd (apart l.sure sure late.0)) (λ tells. tells) sound
-  where
-    apart : (b : Bool) → b ≡ true → b ≡ false → ⊥
-    apart b yes' no' = cc
+sure_tells f log words views marked l sure sound = ⊎_elim (λ late. absurd (both_ways l.sure late.0 sure)) (λ tells. tells) sound
 
 -- a condition of a view counts once or not at all
 abbrev bit_of : Bool → ℕ
@@ -35,11 +33,6 @@ raised_counts g views i v w there raised =
     let one : bit_of (g w) ≡ 1 = ap bit_of raised in
     let term : bit_of (g w) ≤ count_by g (set views i w) = term-le (λ z. bit_of (g z)) (set views i w) i w (lookup-set_here views i w (lookup-within views i v there)) in
     omega arith
-
--- whatever was raised before, this cause is now
-or_true : (a b : Bool) → b ≡ true → (a || b) ≡ true
-or_true true b is = refl
-or_true false b is = is
 
 -- a store of the flag
 pub flag_stored : (f : Frame) (log : List Edge) (words : List ℕ) (views : List View) (i : ℕ) (v : View) (why : ℕ) → get_elem? views i ≡ some v → v.live ≡ true → IsCause why → TiedBy f log words views
@@ -118,7 +111,7 @@ flag_stored f log words views i v why there live cause tied =
         known = let small = range.1 in omega arith;
         none_disk = λ none. let large = range.0 in absurd (omega arith);
         none_memory = λ none. let large = range.0 in absurd (omega arith);
-        disk = λ is. raised_counts (λ u. u.disk_raised) views i v w there (or_true v.disk_raised (why == 1) (ap (λ n. n == 1) (sym flag ∙ is)));
-        memory = λ is. raised_counts (λ u. u.memory_raised) views i v w there (or_true v.memory_raised (why == 2) (ap (λ n. n == 2) (sym flag ∙ is)));
+        disk = λ is. raised_counts (λ u. u.disk_raised) views i v w there (or_right v.disk_raised (why == 1) (ap (λ n. n == 1) (sym flag ∙ is)));
+        memory = λ is. raised_counts (λ u. u.memory_raised) views i v w there (or_right v.memory_raised (why == 2) (ap (λ n. n == 2) (sym flag ∙ is)));
       };
     }

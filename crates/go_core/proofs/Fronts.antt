@@ -1,7 +1,7 @@
 -- Stores of the fronts: a worker moves its front to at most what it took.
 use Rattle.std.proofs.Common.{◌≡◌, ℕ, ◌+◌, ◌-◌, ◌%◌, ◌<◌, ◌≤◌, ◌≢◌, Bool, true, false, cond, List, length, set, sym, refl, ap, ◌∙◌, ⊎_elim, arith, subst}
 use Rattle.std.specs.Prelude.{sum_by, count_by, slice_index}
-use Rattle.std.proofs.lemmas.Bool.{cases_lt}
+use Rattle.std.proofs.lemmas.Bool.{cases_lt, false≢true}
 use Rattle.std.proofs.Math.Nat.{add-mod_right}
 use Rattle.std.proofs.lemmas.List.{length-set}
 use mathlib.Core.Option.{some}
@@ -134,7 +134,7 @@ archived_stored f log words views i v front there live role from to tied =
     in
     -- what the rule says of the party but for its role
     let bare : View = record v { archives = false } in
-    let s = seated_onward f log words views log words' views' on bare (λ none. absurd (apart none)) (λ flushes. durable)
+    let s = seated_onward f log words views log words' views' on bare (λ none. absurd (false≢true none)) (λ flushes. durable)
     (record {
       spent_else = λ dead. still_live v _ live dead;
       taken_from = s0.taken_from;
@@ -144,8 +144,8 @@ archived_stored f log words views i v front there live role from to tied =
       head_to = s0.head_to;
       archived_to = s0.archived_to;
       durable_to = s0.durable_to;
-      archiver_knows = λ none. absurd (apart none);
-      archiver_took = λ none. absurd (apart none);
+      archiver_knows = λ none. absurd (false≢true none);
+      archiver_took = λ none. absurd (false≢true none);
       flusher_knows = s0.flusher_knows;
       flusher_took = s0.flusher_took;
       pending_of = s0.pending_of;
@@ -194,6 +194,3 @@ archived_stored f log words views i v front there live role from to tied =
       flag = subst (λ k. IsFlag k views') (sym flag)
           (flag_same (flag_in words) views views' (count_alike (λ u. u.disk_raised) views i v w there refl) (count_alike (λ u. u.memory_raised) views i v w there refl) tied.flag);
     }
-  where
-    apart : false ≡ true → ⊥
-    apart e = cc

@@ -1,7 +1,7 @@
 -- Steps that change no word: loads of the log's length and of the archived front, and words read in order.
 use Rattle.std.proofs.Common.{◌≡◌, ℕ, ◌+◌, ◌-◌, ◌%◌, ◌<◌, ◌≤◌, ◌⊎◌, Bool, true, false, cond, List, [], length, set, map, sym, refl, ap, ◌∙◌, inl, inr, ⊎_elim, arith, subst}
 use Rattle.std.specs.Prelude.{All, max, ◌||◌, nat_le, slice_index}
-use Rattle.std.proofs.lemmas.Bool.{cases_eq, cases_lt}
+use Rattle.std.proofs.lemmas.Bool.{cases_eq, cases_lt, both_ways}
 use Rattle.std.proofs.lemmas.Bool.Decides.{nat_tests}
 use Rattle.std.proofs.lemmas.List.Elements.{All-nil, All-weaker, All-map}
 use Rattle.std.proofs.Math.Nat.{eq-or-lt_of_le, add-mod_right}
@@ -20,10 +20,7 @@ use Rattle.go_core.proofs.Onward.{view_keeps}
 
 -- a live view isn't a spent one
 pub still_live : (v : View) (P : Type 0) → v.live ≡ true → v.live ≡ false → P
-still_live v P live dead = absurd (apart v.live live dead)
-  where
-    apart : (b : Bool) → b ≡ true → b ≡ false → ⊥
-    apart b yes' no' = cc
+still_live v P live dead = absurd (both_ways v.live dead live)
 
 -- a step that told the party nothing
 pub unmoved_keeps : (f : Frame) (log : List Edge) (words : List ℕ) (views : List View) (i : ℕ) (v : View) → get_elem? views i ≡ some v → v.live ≡ true → TiedBy f log words views → TiedBy f log words (set views i (unmoved v))
@@ -165,11 +162,8 @@ in_window f log words views p r from to matched =
     record { edge = found.0; there = found.1; written = written; is = r.holds p found.0 from to written found.1 })
     (λ (not : IsWritten log views p → ⊥).
     let unmatched : is_matched f.slots p (slot f words p) ≡ false = r.waits p from to not in
-    absurd (apart (is_matched f.slots p (slot f words p)) matched unmatched))
+    absurd (both_ways (is_matched f.slots p (slot f words p)) unmatched matched))
     (written_or_not log views p)
-  where
-    apart : (b : Bool) → b ≡ true → b ≡ false → ⊥
-    apart b yes' no' = cc
 
 -- and right past the window the slot still holds the word of the lap before
 past_window : (f : Frame) (log : List Edge) (words : List ℕ) (views : List View) → TiedBy f log words views → released words < length log → IsWritten log views (released words) → is_matched f.slots (released words + f.slots) (slot f words (released words + f.slots)) ≡ false
@@ -205,10 +199,7 @@ matched_is f log words views p seen tied all_seen up_to from matched =
     let first = all_seen (released words) (omega arith) in
     let unmatched = past_window f log words views tied first.within first in
     let here : is_matched f.slots p (slot f words p) ≡ false = ap (λ k. is_matched f.slots k (slot f words k)) is ∙ unmatched in
-    absurd (apart (is_matched f.slots p (slot f words p)) matched here)) (cases_lt p (released words + f.slots))
-  where
-    apart : (b : Bool) → b ≡ true → b ≡ false → ⊥
-    apart b yes' no' = cc
+    absurd (both_ways (is_matched f.slots p (slot f words p)) here matched)) (cases_lt p (released words + f.slots))
 
 -- a word read in order is the log's where it is matched
 pub matched-decode : (f : Frame) (log : List Edge) (words : List ℕ) (views : List View) (p : ℕ) → TiedBy f log words views → f.first ≤ p → (next : IsNext f log words views p) → decode (slot f words p) ≡ next.edge

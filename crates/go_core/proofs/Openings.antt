@@ -27,6 +27,7 @@ use Rattle.go_core.proofs.Claims.{All-lookup, word_here, word_other}
 use Rattle.go_core.proofs.Splits.{own_none}
 use Rattle.go_core.proofs.TurnLaws.{count-none}
 use Rattle.std.proofs.lemmas.Option.{same_Some, none-some}
+use Rattle.std.proofs.lemmas.Bool.{false≢true, true≢false}
 
 -- a view is one of the beginning, with whatever role
 abbrev pub IsOpening : ℕ → View → Type 0
@@ -51,7 +52,7 @@ seated_opening f log words views archives flushes o from written =
     let archived = o.archived in
     let durable = o.durable in
     record {
-      spent_else = λ dead. absurd (apart dead);
+      spent_else = λ dead. absurd (true≢false dead);
       taken_from = λ live. omega arith;
       taken_to = omega arith;
       marked_to = omega arith;
@@ -70,9 +71,6 @@ seated_opening f log words views archives flushes o from written =
       joined = All-nil (AreOwn log views);
       loads = All-nil (IsSound f log words views f.first);
     }
-  where
-    apart : true ≡ false → ⊥
-    apart e = cc
 
 -- the opening state is tied
 pub opening_tied : (f : Frame) (log : List Edge) (words : List ℕ) (views : List View) → 0 < f.slots → 4 ≤ f.base → AreOpening f words → length log ≡ f.first → All (IsOpening f.first) views → count_by (λ v. v.archives) views ≤ 1 → count_by (λ v. v.flushes) views ≤ 1 → TiedBy f log words views
@@ -208,12 +206,9 @@ opening_parted slots first words roles log o long tied =
     free true first = refl
     free false first = refl
 
-    apart : false ≡ true → ⊥
-    apart e = cc
-
     at_home : (b : Bool) (first : ℕ) → (home_of b (opening_parts first)).out ≡ true → ⊥
-    at_home true first out = apart out
-    at_home false first out = apart out
+    at_home true first out = false≢true out
+    at_home false first out = false≢true out
 
     known_to : (b : Bool) (first : ℕ) → (hold_of b (opening_party first Session).stake).front ≤ (home_of b (opening_parts first)).part.front
     known_to true first = omega arith

@@ -1,7 +1,7 @@
 -- What the rule says of the machine's parts lasts over the steps that tell nothing of them, and over the steps on the fronts.
 use Rattle.std.proofs.Common.{◌≡◌, ℕ, zero, suc, ◌+◌, ◌^◌, ◌<◌, ◌≤◌, ◌≢◌, Bool, true, false, List, [], ◌∷◌, length, get_or, set, sym, refl, ap, ◌∙◌, ⊎_elim, arith, subst}
 use Rattle.std.specs.Prelude.{All, Some, slice_get}
-use Rattle.std.proofs.lemmas.Bool.{cases_lt}
+use Rattle.std.proofs.lemmas.Bool.{cases_lt, true≢false}
 use Rattle.std.proofs.lemmas.Option.{same_Some}
 use Rattle.std.proofs.lemmas.List.{map-set, length-map, get_or_past, set-get_or}
 use mathlib.Core.Option.{some}
@@ -37,10 +37,7 @@ stake_at (p ∷ ps) (suc i) = stake_at ps i
 -- a live party is in the list
 pub live_within : (m : Machine) (j : ℕ) → (party_at m j).view.live ≡ true → j < length m.parties
 live_within m j live =
-    ⊎_elim (λ less. less) (λ (past : length m.parties ≤ j). absurd (apart (sym live ∙ ap (λ (p : Party). p.view.live) (get_or_past m.parties j absent past)))) (cases_lt j (length m.parties))
-  where
-    apart : true ≡ false → ⊥
-    apart e = cc
+    ⊎_elim (λ less. less) (λ (past : length m.parties ≤ j). absurd (true≢false (sym live ∙ ap (λ (p : Party). p.view.live) (get_or_past m.parties j absent past)))) (cases_lt j (length m.parties))
 
 -- and so are its view and its stake
 pub party_there : (m : Machine) (i : ℕ) → (party_at m i).view.live ≡ true → get_elem? (views_of m.parties) i ≡ some (party_at m i).view

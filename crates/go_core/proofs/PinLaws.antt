@@ -2,7 +2,7 @@
 use Rattle.std.proofs.Common.{◌≡◌, ℕ, zero, suc, ◌<◌, Bool, true, false, cond, List, [], ◌∷◌, ◌++◌, length, get_or, Option, Some, None, sym, refl, ap, ◌∙◌, ⊎_elim, arith}
 use Rattle.std.specs.Prelude.{Contains, find, is_some, ◌==◌, ◌&&◌, ◌||◌}
 use Rattle.std.specs.Option.{option_or}
-use Rattle.std.proofs.lemmas.Bool.{cases_Bool}
+use Rattle.std.proofs.lemmas.Bool.{cases_Bool, false≢true}
 use Rattle.std.proofs.lemmas.Bool.Decides.{nat_tests}
 use Rattle.std.proofs.lemmas.Option.{same_Some, none-some}
 use Rattle.std.proofs.lemmas.List.Folds.{find-append}
@@ -45,10 +45,7 @@ has-in pins p contained = has-within pins p contained.0 contained.1 contained.2
 
 -- a name that is there is that of a pin
 has-found : (id : ℕ) (pins : List Pin) (o : Option Pin) → find (is_named id) pins ≡ o → is_some o ≡ true → (p : Pin) × Contains pins p × (p.id ≡ id)
-has-found id pins None found has = absurd (apart has)
-  where
-    apart : false ≡ true → ⊥
-    apart e = cc
+has-found id pins None found has = absurd (false≢true has)
 has-found id pins (Some p) found has = let is = named_in id pins p found in (p, is.0, is.1)
 
 pub has-pin : (id : ℕ) (pins : List Pin) → has_name id pins ≡ true → (p : Pin) × Contains pins p × (p.id ≡ id)
@@ -68,10 +65,7 @@ same_pin p q = (p.id == q.id) && (p.front == q.front)
 
 both_true : (a b : Bool) → (a && b) ≡ true → (a ≡ true) × (b ≡ true)
 both_true true b is = (refl, is)
-both_true false b is = absurd (apart is)
-  where
-    apart : false ≡ true → ⊥
-    apart e = cc
+both_true false b is = absurd (false≢true is)
 
 pin_is : (p q : Pin) → p.id ≡ q.id → p.front ≡ q.front → p ≡ q
 pin_is p q one two = λ k. record { id = one k; front = two k }
@@ -96,14 +90,8 @@ same_pin_itself p = ap (λ b. b && (p.front == p.front)) (number p.id) ∙ numbe
 -- lists of pins are the same, pin by pin
 pub same_pins : (xs ys : List Pin) → pointwise same_pin xs ys ≡ true → xs ≡ ys
 same_pins [] [] is = refl
-same_pins [] (y ∷ ys) is = absurd (apart is)
-  where
-    apart : false ≡ true → ⊥
-    apart e = cc
-same_pins (x ∷ xs) [] is = absurd (apart is)
-  where
-    apart : false ≡ true → ⊥
-    apart e = cc
+same_pins [] (y ∷ ys) is = absurd (false≢true is)
+same_pins (x ∷ xs) [] is = absurd (false≢true is)
 same_pins (x ∷ xs) (y ∷ ys) is =
     let both = both_true (same_pin x y) (pointwise same_pin xs ys) is in
     ap (λ z. z ∷ xs) (same_pin_is x y both.0) ∙ ap (λ zs. y ∷ zs) (same_pins xs ys both.1)

@@ -1,7 +1,7 @@
 -- The pins that parties hold stand in the shard, whichever party changes what.
-use Rattle.std.proofs.Common.{◌≡◌, ℕ, ◌+◌, ◌≤◌, ◌≢◌, ◌⊎◌, Bool, true, false, List, [], ◌∷◌, ◌++◌, get_or, set, sym, refl, ap, ◌∙◌, inl, inr, ⊎_elim, arith, subst}
+use Rattle.std.proofs.Common.{◌≡◌, ℕ, ◌+◌, ◌≤◌, ◌≢◌, Bool, true, false, List, [], ◌∷◌, ◌++◌, get_or, set, sym, refl, ap, ◌∙◌, ⊎_elim, arith, subst}
 use Rattle.std.specs.Prelude.{All, Contains, count_by, filter, find, not, Some, ◌||◌}
-use Rattle.std.proofs.lemmas.Bool.{cases_Bool}
+use Rattle.std.proofs.lemmas.Bool.{cases_Bool, both_ways, false≢true, not-true, or_left, or_right, or_cases, or_parts}
 use Rattle.std.proofs.lemmas.List.Elements.{All-nil, All-append, All-push, All-set, All-contains, Contains-get_or, filter_passes}
 use mathlib.Core.Option.{some}
 use lib.ListN.{get_elem?}
@@ -12,31 +12,6 @@ use Rattle.go_core.specs.Parts.{KeepsPins, IsPinnedBy, ArePinned}
 use Rattle.go_core.proofs.Lookups.{lookup-get_or, lookup-set_other, lookup-same}
 use Rattle.go_core.proofs.PinLaws.{named_in, has-in, has-pin, has-append}
 use Rattle.go_core.proofs.TurnLaws.{bit_of, count-set, count-push, not_two, count-none}
-
--- one test has one outcome
-apart : (b : Bool) → b ≡ true → b ≡ false → ⊥
-apart b yes' no' = cc
-
--- of two conditions
-or_left : (a b : Bool) → a ≡ true → (a || b) ≡ true
-or_left true b is = refl
-or_left false b is = absurd (apart false is refl)
-
-or_right : (a b : Bool) → b ≡ true → (a || b) ≡ true
-or_right true b is = refl
-or_right false b is = is
-
-pub or_cases : (a b : Bool) → (a || b) ≡ true → (a ≡ true) ⊎ (b ≡ true)
-or_cases true b is = inl refl
-or_cases false b is = inr is
-
-or_neither : (a b : Bool) → (a || b) ≡ false → (a ≡ false) × (b ≡ false)
-or_neither true b is = absurd (apart true refl is)
-or_neither false b is = (refl, is)
-
-not_true : (b : Bool) → not b ≡ true → b ≡ false
-not_true true is = absurd (apart false is refl)
-not_true false is = refl
 
 -- a condition that implies another counts no more
 bit_le : (a b : Bool) → (a ≡ true → b ≡ true) → bit_of a ≤ bit_of b
@@ -132,7 +107,7 @@ module _ {S : Type 0} (pins put : S → List Pin) (has : S → Bool) where
         record {
           pinned = λ free q e inside.
               (let pin = get_or (pins t) q e in
-              let ne : k ≢ i = λ same. apart (has t) (ap has (lookup-same parties i t s (sym (ap (get_elem? parties) same) ∙ other) there) ∙ mine) free in
+              let ne : k ≢ i = λ same. both_ways (has t) free (ap has (lookup-same parties i t s (sym (ap (get_elem? parties) same) ∙ other) there) ∙ mine) in
               let held : Contains old.pins pin = (are.each k d within).pinned free q e inside in
               let named : has_name pin.id (pins t) ≡ true = has-in (pins t) pin (Contains-get_or (pins t) q e inside) in
               let not' : owns_name pin.id (pins s) (put s) ≡ false = not_mine k t pin.id ne other (or_left (has_name pin.id (pins t)) (has_name pin.id (put t)) named) in
@@ -150,23 +125,23 @@ module _ {S : Type 0} (pins put : S → List Pin) (has : S → Bool) where
         let other : get_elem? parties k ≡ some t = lookup-get_or parties k d within in
         ⊎_elim
         (λ (theirs : owns_name id (pins t) (put t) ≡ true).
-        let ne : k ≢ i = λ same. apart (owns_name id (pins t) (put t)) theirs (ap (λ x. owns_name id (pins x) (put x)) (lookup-same parties i t s (sym (ap (get_elem? parties) same) ∙ other) there) ∙ not') in
+        let ne : k ≢ i = λ same. both_ways (owns_name id (pins t) (put t)) (ap (λ x. owns_name id (pins x) (put x)) (lookup-same parties i t s (sym (ap (get_elem? parties) same) ∙ other) there) ∙ not') theirs in
         let free : has t ≡ false = no_turn k t ne other in
         let one = are.each k d within in
         let named : has_name id (pins t) ≡ true =
-        ⊎_elim (λ in_pins. in_pins) (λ in_put. absurd (apart false (sym (ap (has_name id) (one.none_put free)) ∙ in_put) refl)) (or_cases (has_name id (pins t)) (has_name id (put t)) theirs)
+        ⊎_elim (λ in_pins. in_pins) (λ in_put. absurd (false≢true (sym (ap (has_name id) (one.none_put free)) ∙ in_put))) (or_cases (has_name id (pins t)) (has_name id (put t)) theirs)
         in
         let found = has-pin id (pins t) named in
         let held : Contains old.pins found.0 = All-contains (Contains old.pins) (pins t) found.0 (one.pinned free) found.1 in
         let there' : has_name id old.pins ≡ true = ap (λ n. has_name n old.pins) (sym found.2) ∙ has-in old.pins found.0 held in
-        absurd (apart (has_name id old.pins) there' fresh))
+        absurd (both_ways (has_name id old.pins) fresh there'))
         (λ none. none) (cases_Bool (owns_name id (pins t) (put t)))))
 
     pub pinned_put : has s' ≡ true → pins s' ≡ pins s → put s' ≡ filter (λ pin. owns_name pin.id (pins s) (put s) || not (has_name pin.id old.pins)) new.pins → ArePinned pins put has new.pins (set parties i s')
     pinned_put turn same_pins is_put =
         let test : Pin → Bool = λ pin. owns_name pin.id (pins s) (put s) || not (has_name pin.id old.pins) in
         record {
-          each = All-set (IsPinnedBy pins put has new.pins) parties i s' (record { pinned = λ free. absurd (apart (has s') turn free); none_put = λ free. absurd (apart (has s') turn free) }) still_held;
+          each = All-set (IsPinnedBy pins put has new.pins) parties i s' (record { pinned = λ free. absurd (both_ways (has s') free turn); none_put = λ free. absurd (both_ways (has s') free turn) }) still_held;
           apart = λ id.
               (let change = count-set (λ x. owns_name id (pins x) (put x)) parties i s s' there in
               let before = are.apart id in
@@ -175,14 +150,14 @@ module _ {S : Type 0} (pins put : S → List Pin) (has : S → Bool) where
               let one : bit_of (owns_name id (pins s') (put s')) ≡ 1 = ap bit_of now in
               ⊎_elim (λ (own : owns_name id (pins s) (put s) ≡ true). let was : bit_of (owns_name id (pins s) (put s)) ≡ 1 = ap bit_of own in omega arith)
               (λ (not' : owns_name id (pins s) (put s) ≡ false).
-              let neither = or_neither (has_name id (pins s)) (has_name id (put s)) not' in
+              let neither = or_parts (has_name id (pins s)) (has_name id (put s)) not' in
               let in_put : has_name id (put s') ≡ true =
-              ⊎_elim (λ in_pins. absurd (apart (has_name id (pins s)) (ap (has_name id) (sym same_pins) ∙ in_pins) neither.0)) (λ in_put. in_put) (or_cases (has_name id (pins s')) (has_name id (put s')) now)
+              ⊎_elim (λ in_pins. absurd (both_ways (has_name id (pins s)) neither.0 (ap (has_name id) (sym same_pins) ∙ in_pins))) (λ in_put. in_put) (or_cases (has_name id (pins s')) (has_name id (put s')) now)
               in
               let found = named_passes test new.pins id (ap (has_name id) (sym is_put) ∙ in_put) in
               let passed : (owns_name id (pins s) (put s) || not (has_name id old.pins)) ≡ true = ap (λ n. owns_name n (pins s) (put s) || not (has_name n old.pins)) (sym found.2) ∙ found.1 in
               let fresh : has_name id old.pins ≡ false =
-              ⊎_elim (λ own. absurd (apart (owns_name id (pins s) (put s)) own not')) (λ new'. not_true (has_name id old.pins) new') (or_cases (owns_name id (pins s) (put s)) (not (has_name id old.pins)) passed)
+              ⊎_elim (λ own. absurd (both_ways (owns_name id (pins s) (put s)) not' own)) (λ new'. not-true (has_name id old.pins) new') (or_cases (owns_name id (pins s) (put s)) (not (has_name id old.pins)) passed)
               in
               let zero' = nobody id not' fresh in
               let was : bit_of (owns_name id (pins s) (put s)) ≡ 0 = ap bit_of not' in

@@ -1,7 +1,7 @@
 -- A party that is split in two, and two that are joined.
 use Rattle.std.proofs.Common.{◌≡◌, ℕ, ◌+◌, ◌<◌, ◌≤◌, ◌≢◌, Bool, true, false, cond, List, [], ◌∷◌, ◌++◌, length, set, refl, ap, ◌∙◌, ⊎_elim, arith, subst}
 use Rattle.std.specs.Prelude.{sum_by, count_by, ◌||◌}
-use Rattle.std.proofs.lemmas.Bool.{cases_lt}
+use Rattle.std.proofs.lemmas.Bool.{cases_lt, false≢true}
 use Rattle.std.proofs.lemmas.List.{length-append}
 use Rattle.std.proofs.lemmas.List.Sums.{sum_by_push, sum_by-append, sum_by-cons}
 use Rattle.std.proofs.lemmas.List.Elements.{All-nil, All-append, All-cons}
@@ -124,10 +124,10 @@ split_keeps f log words views i v there live tied =
       head_to = s.head_to;
       archived_to = s.archived_to;
       durable_to = s.durable_to;
-      archiver_knows = λ none. absurd (apart none);
-      archiver_took = λ none. absurd (apart none);
-      flusher_knows = λ none. absurd (apart none);
-      flusher_took = λ none. absurd (apart none);
+      archiver_knows = λ none. absurd (false≢true none);
+      archiver_took = λ none. absurd (false≢true none);
+      flusher_knows = λ none. absurd (false≢true none);
+      flusher_took = λ none. absurd (false≢true none);
       pending_of = All-nil (IsOf log);
       abandoned_of = All-nil (IsOf log);
       flagged = λ some'. absurd (omega arith);
@@ -135,26 +135,23 @@ split_keeps f log words views i v there live tied =
       joined = All-nil (AreOwn log views);
       loads = All-nil (IsSound f log words views v.marked);
     }) tied
-  where
-    apart : false ≡ true → ⊥
-    apart e = cc
 
 -- a view that has nothing meets the rule
 seated_spent : (f : Frame) (log : List Edge) (words : List ℕ) (views : List View) → Seated f log words views spent
 seated_spent f log words views =
     record {
       spent_else = λ dead. refl;
-      taken_from = λ live. absurd (apart live);
+      taken_from = λ live. absurd (false≢true live);
       taken_to = omega arith;
       marked_to = omega arith;
       seen_written = λ p less. absurd (omega arith);
       head_to = omega arith;
       archived_to = omega arith;
       durable_to = omega arith;
-      archiver_knows = λ none. absurd (apart none);
-      archiver_took = λ none. absurd (apart none);
-      flusher_knows = λ none. absurd (apart none);
-      flusher_took = λ none. absurd (apart none);
+      archiver_knows = λ none. absurd (false≢true none);
+      archiver_took = λ none. absurd (false≢true none);
+      flusher_knows = λ none. absurd (false≢true none);
+      flusher_took = λ none. absurd (false≢true none);
       pending_of = All-nil (IsOf log);
       abandoned_of = All-nil (IsOf log);
       flagged = λ some'. absurd (omega arith);
@@ -162,9 +159,6 @@ seated_spent f log words views =
       joined = All-nil (AreOwn log views);
       loads = All-nil (IsSound f log words views 0);
     }
-  where
-    apart : false ≡ true → ⊥
-    apart e = cc
 
 -- a sum where one view takes over what another has, which has nothing then
 total_joined : (g : View → ℕ) (views : List View) (i j : ℕ) (v other both : View) → j ≢ i → get_elem? views i ≡ some v → get_elem? views j ≡ some other → g spent ≡ 0 → sum_by g (set (set views i both) j spent) + g v + g other ≡ sum_by g views + g both

@@ -1,7 +1,7 @@
 -- A worker takes the positions one by one: its taken length grows only over the word that it read there.
 use Rattle.std.proofs.Common.{◌≡◌, ℕ, suc, ◌+◌, ◌<◌, ◌≤◌, ◌≢◌, Bool, true, false, cond, List, [], ◌∷◌, length, get_or, set, Option, Some, None, sym, refl, ap, ◌∙◌, inl, inr, ⊎_elim, arith, subst}
 use Rattle.std.specs.Prelude.{find, max, ◌==◌}
-use Rattle.std.proofs.lemmas.Bool.{cases_eq, cases_lt}
+use Rattle.std.proofs.lemmas.Bool.{cases_eq, cases_lt, true≢false}
 use Rattle.std.proofs.lemmas.List.{get_or-set_same, get_or-set_other, set_past, get_or_past, get_or_append_left, length-set}
 use mathlib.Core.Option.{some}
 use Rattle.go_word.specs.Word.{is_matched}
@@ -109,18 +109,12 @@ worker_within m i worker =
     ⊎_elim (λ less. less)
     (λ (past : length m.parties ≤ i).
     let none = get_or_past m.parties i absent past in
-    absurd (⊎_elim (λ role. apart (sym role ∙ ap (λ (p : Party). p.view.archives) none)) (λ role. apart (sym role ∙ ap (λ (p : Party). p.view.flushes) none)) worker)) (cases_lt i (length m.parties))
-  where
-    apart : true ≡ false → ⊥
-    apart e = cc
+    absurd (⊎_elim (λ role. true≢false (sym role ∙ ap (λ (p : Party). p.view.archives) none)) (λ role. true≢false (sym role ∙ ap (λ (p : Party). p.view.flushes) none)) worker)) (cases_lt i (length m.parties))
 
 -- a party that is joined in is no worker
 joined_other : (m : Machine) (i j : ℕ) → IsWorker (party_at m i).view → CanJoin (party_at m j).view (party_at m j).stake → i ≢ j
 joined_other m i j worker can same =
-    ⊎_elim (λ role. apart (sym role ∙ ap (λ k. (party_at m k).view.archives) same ∙ can.archives)) (λ role. apart (sym role ∙ ap (λ k. (party_at m k).view.flushes) same ∙ can.flushes)) worker
-  where
-    apart : true ≡ false → ⊥
-    apart e = cc
+    ⊎_elim (λ role. true≢false (sym role ∙ ap (λ k. (party_at m k).view.archives) same ∙ can.archives)) (λ role. true≢false (sym role ∙ ap (λ k. (party_at m k).view.flushes) same ∙ can.flushes)) worker
 
 -- a turn that is asked for
 turn_worked : (m : Machine) (j : ℕ) (b : Bool) (act : Act) (i : ℕ) → IsWorker (party_at m i).view → (free : Bool) → Worked m (cond free (with_word (turn_place b) 1 (with_stake j (having_turn b (party_at m j).stake) m)) (with_view j (unmoved (party_at m j).view) m)) j act (Number (turn_in b m.words)) i

@@ -1,7 +1,7 @@
 -- The steps on the parts keep what the rule says of them: a turn taken or given back, a part taken out or put in.
 use Rattle.std.proofs.Common.{◌≡◌, ℕ, ◌<◌, ◌≤◌, Bool, true, false, List, [], length, set, sym, refl, ap, ◌∙◌, ⊎_elim, arith, subst}
 use Rattle.std.specs.Prelude.{All, Contains, max, filter}
-use Rattle.std.proofs.lemmas.Bool.{cases_lt}
+use Rattle.std.proofs.lemmas.Bool.{cases_lt, both_ways, or_cases, false≢true, true≢false}
 use Rattle.std.proofs.lemmas.List.Elements.{All-set, All-weaker, All-filter, All-contains_itself}
 use Rattle.go_word.specs.declared.edge.Edge.{Edge}
 use Rattle.go_core.specs.declared.pin.Pin.{Pin}
@@ -19,13 +19,9 @@ use Rattle.go_core.specs.Acts.{IsLawful}
 use Rattle.go_core.specs.Machine.{Machine, AreParted, views_of, stakes_of, states_of, turn_in, party_at, with_word, with_stake, with_part, with_view}
 use Rattle.go_core.proofs.Claims.{All-lookup, word_here, word_other}
 use Rattle.go_core.proofs.TurnLaws.{turn_taken, turn_given, turn_same, turn_had}
-use Rattle.go_core.proofs.Pinned.{pinned_set, pinned_put, named_passes, or_cases}
+use Rattle.go_core.proofs.Pinned.{pinned_set, pinned_put, named_passes}
 use Rattle.go_core.proofs.PartLaws.{parts_onward, shard_put, file_put}
 use Rattle.go_core.proofs.Parted.{party_there, stake_there, views-set, stakes-set, written_less}
-
--- one test has one outcome
-apart : (b : Bool) → b ≡ true → b ≡ false → ⊥
-apart b yes' no' = cc
 
 -- what a party holds of each part
 abbrev pub has_turn : Bool → Stake → Bool
@@ -108,7 +104,7 @@ turn_parted m i true log live long free are =
     (subst (λ n. IsTurn (has_turn false) n (set stakes i s')) (sym other) (same_turn m i s' words' m.parts log live are false refl)))
     (of_two (λ part. (home_of part m.parts).out ≡ true → 0 < turn_in part words') (λ out. omega arith) (λ out. let old = are.homes false out in omega arith))
     (of_two (λ part. All (λ z. (hold_of part z).front ≤ (home_of part m.parts).part.front) (set stakes i s')) (same_front m i s' words' m.parts log live are true refl) (same_front m i s' words' m.parts log live are false refl))
-    (same_pins m i s' words' m.parts log live are refl refl (λ none. absurd (apart true refl none)))
+    (same_pins m i s' words' m.parts log live are refl refl (λ none. absurd (true≢false none)))
 turn_parted m i false log live long free are =
     let s = (party_at m i).stake in
     let s' = having_turn false s in
@@ -177,7 +173,7 @@ put_parted m i true state log live turn lawful tied are =
     in
     stake_step m i s' m.words parts' log live are refl refl parts
     (of_two (λ part. IsTurn (has_turn part) (turn_in part m.words) (set stakes i s')) (same_turn m i s' m.words parts' log live are true refl) (same_turn m i s' m.words parts' log live are false refl))
-    (of_two (λ part. (home_of part parts').out ≡ true → 0 < turn_in part m.words) (λ out. absurd (apart false out refl)) (λ out. are.homes false out))
+    (of_two (λ part. (home_of part parts').out ≡ true → 0 < turn_in part m.words) (λ out. absurd (false≢true out)) (λ out. are.homes false out))
     (of_two (λ part. All (λ z. (hold_of part z).front ≤ (home_of part parts').part.front) (set stakes i s'))
     (All-weaker (λ (z : Stake). z.shard.front ≤ old.front) (λ z. z.shard.front ≤ state.front) (λ z small. omega arith) (set stakes i s') (same_front m i s' m.words parts' log live are true refl))
     (same_front m i s' m.words parts' log live are false refl))
@@ -200,7 +196,7 @@ put_parted m i false state log live turn lawful tied are =
     file_put st Reaches m.frame log (archived_in m.words) (durable_in m.words) (views_of m.parties) (states_of m.parts) 1 old state refl are.parts v.taken (omega arith) (λ p less. seat.seen_written p (omega arith)) reach lawful
     in
     stake_step m i s m.words parts' log live are refl refl parts (λ part. same_turn m i s m.words parts' log live are part refl)
-    (of_two (λ part. (home_of part parts').out ≡ true → 0 < turn_in part m.words) (λ out. are.homes true out) (λ out. absurd (apart false out refl)))
+    (of_two (λ part. (home_of part parts').out ≡ true → 0 < turn_in part m.words) (λ out. are.homes true out) (λ out. absurd (false≢true out)))
     (of_two (λ part. All (λ z. (hold_of part z).front ≤ (home_of part parts').part.front) (set stakes i s)) (same_front m i s m.words parts' log live are true refl)
     (All-weaker (λ (z : Stake). z.file.front ≤ old.front) (λ z. z.file.front ≤ state.front) (λ z small. omega arith) (set stakes i s) (same_front m i s m.words parts' log live are false refl)))
     (same_pins m i s m.words parts' log live are refl refl (λ free. free))
@@ -221,13 +217,13 @@ given_parted m i true log live long turn home are =
     stake_step m i s' words' m.parts log live are (word_other m.words 4 1 0 (λ e. omega arith)) (word_other m.words 4 2 0 (λ e. omega arith)) are.parts
     (of_two (λ b. IsTurn (has_turn b) (turn_in b words') (set stakes i s')) (subst (λ n. IsTurn (has_turn true) n (set stakes i s')) (sym here) given)
     (subst (λ n. IsTurn (has_turn false) n (set stakes i s')) (sym other) (same_turn m i s' words' m.parts log live are false refl)))
-    (of_two (λ b. (home_of b m.parts).out ≡ true → 0 < turn_in b words') (λ out. absurd (apart m.parts.shard.out out home)) (λ out. let old = are.homes false out in omega arith))
+    (of_two (λ b. (home_of b m.parts).out ≡ true → 0 < turn_in b words') (λ out. absurd (both_ways m.parts.shard.out home out)) (λ out. let old = are.homes false out in omega arith))
     (of_two (λ b. All (λ z. (hold_of b z).front ≤ (home_of b m.parts).part.front) (set stakes i s')) (All-set (λ (z : Stake). z.shard.front ≤ part.front) stakes i s' (omega arith) (are.known true))
     (same_front m i s' words' m.parts log live are false refl))
     (pinned_set (λ (z : Stake). z.pins) (λ z. z.put) (λ z. z.shard.turn) part.pins stakes i s s' (stake_there m i live)
     (record { pinned = λ free. All-filter own (Contains part.pins) part.pins (All-contains_itself part.pins); none_put = λ free. refl })
     (λ id is.
-    ⊎_elim (λ in_pins. let found = named_passes own part.pins id in_pins in ap (λ n. owns_name n s.pins s.put) (sym found.2) ∙ found.1) (λ in_put. absurd (apart false in_put refl)) (or_cases (has_name id (filter own part.pins)) (has_name id []) is))
+    ⊎_elim (λ in_pins. let found = named_passes own part.pins id in_pins in ap (λ n. owns_name n s.pins s.put) (sym found.2) ∙ found.1) (λ in_put. absurd (false≢true in_put)) (or_cases (has_name id (filter own part.pins)) (has_name id []) is))
     are.pinned)
 given_parted m i false log live long turn home are =
     let s = (party_at m i).stake in
@@ -241,7 +237,7 @@ given_parted m i false log live long turn home are =
     stake_step m i s' words' m.parts log live are (word_other m.words 5 1 0 (λ e. omega arith)) (word_other m.words 5 2 0 (λ e. omega arith)) are.parts
     (of_two (λ b. IsTurn (has_turn b) (turn_in b words') (set stakes i s')) (subst (λ n. IsTurn (has_turn true) n (set stakes i s')) (sym other) (same_turn m i s' words' m.parts log live are true refl))
     (subst (λ n. IsTurn (has_turn false) n (set stakes i s')) (sym here) given))
-    (of_two (λ b. (home_of b m.parts).out ≡ true → 0 < turn_in b words') (λ out. let old = are.homes true out in omega arith) (λ out. absurd (apart m.parts.file.out out home)))
+    (of_two (λ b. (home_of b m.parts).out ≡ true → 0 < turn_in b words') (λ out. let old = are.homes true out in omega arith) (λ out. absurd (both_ways m.parts.file.out home out)))
     (of_two (λ b. All (λ z. (hold_of b z).front ≤ (home_of b m.parts).part.front) (set stakes i s')) (same_front m i s' words' m.parts log live are true refl)
     (All-set (λ (z : Stake). z.file.front ≤ part.front) stakes i s' (omega arith) (are.known false)))
     (same_pins m i s' words' m.parts log live are refl refl (λ free. free))

@@ -1,14 +1,12 @@
 -- `put_in`: where the part may not be put in, nothing has changed.
-use Rattle.std.proofs.Common.{◌≡◌, false, true, List, get_or, set, inr, refl, subst, sym, ap, ◌∙◌}
+use Rattle.std.proofs.Common.{◌≡◌, List, get_or, set, inr, refl, subst, sym, ap, ◌∙◌}
 use Rattle.std.proofs.lemmas.List.{set-get_or}
+use Rattle.std.proofs.lemmas.Bool.{false≢true}
 use Rattle.go_core.specs.declared.party.Party.{Party}
 use Rattle.go_core.specs.Acts.{CanPutIn}
 use Rattle.go_core.specs.Machine.{machine_of, absent}
 use Rattle.go_core.proofs.Parties.{party_read}
 use Rattle.go_core.proofs.turns.put_in.Goals as goal
-
-apart : false ≡ true → ⊥
-apart e = cc
 
 pub returns-then-not-can_put_in-clause-row : goal.returns-then-not-can_put_in-clause-row
 returns-then-not-can_put_in-clause-row c =
@@ -16,7 +14,7 @@ returns-then-not-can_put_in-clause-row c =
     let i = c.args.i in
     let p = c.index_mut-party.result.now in
     let same : p ≡ get_or ps i absent = party_read ps i p c.requires.live.within c.index_mut-party.ensures.value in
-    let not' : CanPutIn c.args.parts.now p.view p.stake c.args.part c.args.state.now → ⊥ = λ can. apart (c.if-not-can_put_in.ensures.1 can) in
+    let not' : CanPutIn c.args.parts.now p.view p.stake c.args.part c.args.state.now → ⊥ = λ can. false≢true (c.if-not-can_put_in.ensures.1 can) in
     let unchanged : set ps i p ≡ ps = ap (set ps i) c.index_mut-party.ensures.value ∙ set-get_or ps i p in
     λ slots first words.
     inr (
