@@ -1,5 +1,5 @@
 -- A store of the flag, and what a word that was read ahead tells once it is sure.
-use Rattle.std.proofs.Common.{◌≡◌, ℕ, ◌<◌, ◌≤◌, Bool, true, cond, List, set, sym, refl, ap, ◌∙◌, ⊎_elim, arith, subst}
+use Rattle.std.proofs.Common.{◌≡◌, ℕ, ◌<◌, ◌≤◌, Bool, true, List, set, sym, refl, ap, ◌∙◌, ⊎_elim, arith, subst}
 use Rattle.std.specs.Prelude.{sum_by, count_by, ◌==◌}
 use Rattle.std.proofs.lemmas.List.{length-set}
 use Rattle.std.proofs.lemmas.Bool.{both_ways, or_right}
@@ -14,7 +14,7 @@ use Rattle.go_core.specs.View.{unfilled, stands, raising}
 use Rattle.go_core.specs.Acts.{IsCause}
 use Rattle.go_core.specs.Rule.{owed, Tells, IsSound, Seated, TiedBy}
 use Rattle.go_core.proofs.Lookups.{lookup-set, lookup-set_here, lookup-within}
-use Rattle.go_core.proofs.Totals.{term-le}
+use Rattle.go_core.proofs.Totals.{bit_of, term-le}
 use Rattle.go_core.proofs.Onward.{Onward, seated_onward, written_same, ringed_same, total_alike, count_alike}
 use Rattle.go_core.proofs.Loads.{still_live}
 use Rattle.go_core.proofs.Claims.{word_other, word_here}
@@ -22,10 +22,6 @@ use Rattle.go_core.proofs.Claims.{word_other, word_here}
 -- a sure load tells what it told for good
 pub sure_tells : (f : Frame) (log : List Edge) (words : List ℕ) (views : List View) (marked : ℕ) (l : Load) → l.sure ≡ true → IsSound f log words views marked l → Tells f log views marked l
 sure_tells f log words views marked l sure sound = ⊎_elim (λ late. absurd (both_ways l.sure late.0 sure)) (λ tells. tells) sound
-
--- a condition of a view counts once or not at all
-abbrev bit_of : Bool → ℕ
-bit_of b = cond b 1 0
 
 -- a cause that one view has raised counts
 raised_counts : (g : View → Bool) (views : List View) (i : ℕ) (v w : View) → get_elem? views i ≡ some v → g w ≡ true → 0 < count_by g (set views i w)

@@ -1,5 +1,5 @@
 -- Stores of the fronts: a worker moves its front to at most what it took.
-use Rattle.std.proofs.Common.{◌≡◌, ℕ, ◌+◌, ◌-◌, ◌%◌, ◌<◌, ◌≤◌, ◌≢◌, Bool, true, false, cond, List, length, set, sym, refl, ap, ◌∙◌, ⊎_elim, arith, subst}
+use Rattle.std.proofs.Common.{◌≡◌, ℕ, ◌+◌, ◌-◌, ◌%◌, ◌<◌, ◌≤◌, ◌≢◌, Bool, true, false, List, length, set, sym, refl, ap, ◌∙◌, ⊎_elim, arith, subst}
 use Rattle.std.specs.Prelude.{sum_by, count_by, slice_index}
 use Rattle.std.proofs.lemmas.Bool.{cases_lt, false≢true}
 use Rattle.std.proofs.Math.Nat.{add-mod_right}
@@ -14,7 +14,7 @@ use Rattle.go_core.specs.Frame.{Frame, place, slot, head_in, archived_in, durabl
 use Rattle.go_core.specs.View.{unfilled, stands, archiving}
 use Rattle.go_core.specs.Rule.{owed, IsWritten, Ringed, Seated, IsFlag, TiedBy}
 use Rattle.go_core.proofs.Lookups.{lookup-some, lookup-set}
-use Rattle.go_core.proofs.Totals.{terms-le}
+use Rattle.go_core.proofs.Totals.{bit_of, terms-le}
 use Rattle.go_core.proofs.Onward.{Onward, seated_onward, written_same, ringed_same, total_alike, count_alike, flag_same}
 use Rattle.go_core.proofs.Loads.{still_live}
 use Rattle.go_core.proofs.Claims.{word_other, word_here}
@@ -86,10 +86,6 @@ ringed_moved f log words views words' storable m r =
           ap (λ k. is_matched f.slots k (slot f words k)) (sym is) ∙ unmatched)
           (cases_lt p (released words + f.slots));
     }
-
--- a condition of a view counts once or not at all
-abbrev bit_of : Bool → ℕ
-bit_of b = cond b 1 0
 
 -- another party doesn't have a role that one has
 pub other_role : (g : View → Bool) (views : List View) (i j : ℕ) (v u : View) (P : Type 0) → j ≢ i → get_elem? views i ≡ some v → get_elem? views j ≡ some u → g v ≡ true → count_by g views ≤ 1 → g u ≡ true → P

@@ -1,5 +1,5 @@
 -- A machine that begins is tied to every log of as many entries as lie before its first position.
-use Rattle.std.proofs.Common.{◌≡◌, ℕ, zero, suc, ◌+◌, ◌*◌, ◌^◌, ◌<◌, ◌≤◌, Bool, true, false, cond, List, [], ◌∷◌, ◌++◌, map, length, set, take, replicate, sym, refl, ap, ◌∙◌, arith, subst}
+use Rattle.std.proofs.Common.{◌≡◌, ℕ, zero, suc, ◌+◌, ◌*◌, ◌^◌, ◌<◌, ◌≤◌, Bool, true, false, List, [], ◌∷◌, ◌++◌, map, length, set, take, replicate, sym, refl, ap, ◌∙◌, arith, subst}
 use Rattle.std.specs.Prelude.{All, Contains, Some, slice_get, sum_by, count_by, slice_index}
 use Rattle.std.proofs.lemmas.List.{length-set, length-replicate, get_or-replicate, take_at}
 use Rattle.std.proofs.lemmas.List.Sums.{sum_by-cons}
@@ -23,6 +23,7 @@ use Rattle.go_core.specs.Parts.{Reaches, IsPartOf, IsShardOf, IsPinnedBy}
 use Rattle.go_core.specs.Turns.{hold_of, home_of}
 use Rattle.go_core.specs.Machine.{IsTied, AreParted, views_of, stakes_of, states_of, turn_in, frame_of, machine_of}
 use Rattle.go_core.proofs.Lookups.{lookup-within}
+use Rattle.go_core.proofs.Totals.{bit_of}
 use Rattle.go_core.proofs.Claims.{All-lookup, word_here, word_other}
 use Rattle.go_core.proofs.Splits.{own_none}
 use Rattle.go_core.proofs.TurnLaws.{count-none}
@@ -32,10 +33,6 @@ use Rattle.std.proofs.lemmas.Bool.{false≢true, true≢false}
 -- a view is one of the beginning, with whatever role
 abbrev pub IsOpening : ℕ → View → Type 0
 IsOpening first v = v ≡ opening_view first v.archives v.flushes
-
--- a condition of a view counts once or not at all
-abbrev bit_of : Bool → ℕ
-bit_of b = cond b 1 0
 
 -- a sum of nothing
 sum_none : (g : View → ℕ) (views : List View) → All (λ v. g v ≡ 0) views → sum_by g views ≡ 0

@@ -11,7 +11,8 @@ use Rattle.go_core.specs.Pins.{is_named, has_name, owns_name}
 use Rattle.go_core.specs.Parts.{KeepsPins, IsPinnedBy, ArePinned}
 use Rattle.go_core.proofs.Lookups.{lookup-get_or, lookup-set_other, lookup-same}
 use Rattle.go_core.proofs.PinLaws.{named_in, has-in, has-pin, has-append}
-use Rattle.go_core.proofs.TurnLaws.{bit_of, count-set, count-push, not_two, count-none}
+use Rattle.go_core.proofs.Totals.{bit_of}
+use Rattle.go_core.proofs.TurnLaws.{count-set, count-push, not_two, count-none}
 
 -- a condition that implies another counts no more
 bit_le : (a b : Bool) → (a ≡ true → b ≡ true) → bit_of a ≤ bit_of b

@@ -1,5 +1,5 @@
 -- A party that is split in two, and two that are joined.
-use Rattle.std.proofs.Common.{◌≡◌, ℕ, ◌+◌, ◌<◌, ◌≤◌, ◌≢◌, Bool, true, false, cond, List, [], ◌∷◌, ◌++◌, length, set, refl, ap, ◌∙◌, ⊎_elim, arith, subst}
+use Rattle.std.proofs.Common.{◌≡◌, ℕ, ◌+◌, ◌<◌, ◌≤◌, ◌≢◌, Bool, true, false, List, [], ◌∷◌, ◌++◌, length, set, refl, ap, ◌∙◌, ⊎_elim, arith, subst}
 use Rattle.std.specs.Prelude.{sum_by, count_by, ◌||◌}
 use Rattle.std.proofs.lemmas.Bool.{cases_lt, false≢true}
 use Rattle.std.proofs.lemmas.List.{length-append}
@@ -13,14 +13,10 @@ use Rattle.go_core.specs.Frame.{Frame, flag_in}
 use Rattle.go_core.specs.View.{count_at, unfilled, stands, spent, unmoved, split_off, joining}
 use Rattle.go_core.specs.Rule.{IsOf, owed, IsWritten, AreOwn, IsSound, Seated, IsFlag, TiedBy}
 use Rattle.go_core.proofs.Lookups.{lookup-set, lookup-set_other, lookup-last}
-use Rattle.go_core.proofs.Totals.{total-set, terms-le}
+use Rattle.go_core.proofs.Totals.{bit_of, total-set, terms-le}
 use Rattle.go_core.proofs.Entries.{count_at-append}
 use Rattle.go_core.proofs.Onward.{Onward, seated_onward, written_same, ringed_same}
 use Rattle.go_core.proofs.Loads.{still_live, below_max}
-
--- a condition of a view counts once or not at all
-abbrev pub bit_of : Bool → ℕ
-bit_of b = cond b 1 0
 
 -- two views that share out what one has
 pub record IsShared (v left right : View) : Type 0 where

@@ -1,9 +1,13 @@
--- Sums over the views: a write of one view, a term of the sum, and two of them.
-use Rattle.std.proofs.Common.{◌≡◌, ℕ, zero, suc, ◌+◌, ◌≤◌, ◌≢◌, List, [], ◌∷◌, set, sym, refl, ap, arith}
+-- Sums over the views, and conditions that count in them: a write of one view, a term of the sum, and two of them.
+use Rattle.std.proofs.Common.{◌≡◌, ℕ, zero, suc, ◌+◌, ◌≤◌, ◌≢◌, Bool, cond, List, [], ◌∷◌, set, sym, refl, ap, arith}
 use Rattle.std.specs.Prelude.{sum_by}
 use Rattle.std.proofs.lemmas.List.Sums.{sum_by-cons}
 use mathlib.Core.Option.{some, some-injective, some-ne-none}
 use lib.ListN.{get_elem?}
+
+-- a condition counts once or not at all
+abbrev pub bit_of : Bool → ℕ
+bit_of b = cond b 1 0
 
 module _ {A : Type 0} (f : A → ℕ) where
   -- a write changes the sum by what it changes of its term

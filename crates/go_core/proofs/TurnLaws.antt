@@ -1,5 +1,5 @@
 -- Steps on turn words: a turn word counts the parties that have the turn.
-use Rattle.std.proofs.Common.{◌≡◌, ℕ, ◌+◌, ◌*◌, ◌<◌, ◌≤◌, ◌≢◌, Bool, true, false, cond, List, [], ◌∷◌, ◌++◌, length, set, sym, refl, ap, arith, subst}
+use Rattle.std.proofs.Common.{◌≡◌, ℕ, ◌+◌, ◌*◌, ◌<◌, ◌≤◌, ◌≢◌, Bool, true, false, List, [], ◌∷◌, ◌++◌, length, set, sym, refl, ap, arith, subst}
 use Rattle.std.specs.Prelude.{All, count_by}
 use Rattle.std.proofs.lemmas.List.{length-set}
 use Rattle.std.proofs.lemmas.List.Sums.{sum_by_push, sum_by-le}
@@ -12,15 +12,11 @@ use Rattle.go_core.specs.Frame.{Frame, place, archived_in, durable_in, flag_in}
 use Rattle.go_core.specs.View.{unmoved}
 use Rattle.go_core.specs.Rule.{IsFlag, TiedBy}
 use Rattle.go_core.specs.Parts.{IsTurn}
-use Rattle.go_core.proofs.Totals.{total-set, term-le, terms-le}
+use Rattle.go_core.proofs.Totals.{bit_of, total-set, term-le, terms-le}
 use Rattle.go_core.proofs.Onward.{Onward, seated_onward}
 use Rattle.go_core.proofs.Loads.{unmoved_keeps}
 use Rattle.go_core.proofs.Claims.{word_other}
 use Rattle.go_core.proofs.Fronts.{IsMoved, ringed_moved}
-
--- a condition of a party counts once or not at all
-abbrev pub bit_of : Bool → ℕ
-bit_of b = cond b 1 0
 
 module _ {S : Type 0} (g : S → Bool) where
   -- a count after one party has changed
