@@ -25,7 +25,7 @@ use Rattle.go_core.proofs.Flags.{sure_tells}
 use Rattle.go_core.proofs.Parted.{party_there}
 use Rattle.go_core.proofs.Rows.{row_keeps}
 use Rattle.go_core.proofs.Ready.{seated_or_absent}
-use Rattle.go_core.proofs.Runs.{row_frame, row_released}
+use Rattle.go_core.proofs.Runs.{same_word, word-refused, row_frame, row_released}
 
 -- the answer of a front that was read is the front, which is never below what is released
 front_answer : (front : ℕ) (after m : Machine) (condition : Type 0) (n : ℕ) (now : Machine) → released m.words ≤ front → Does condition (Number front) after m (Number n) now → released m.words ≤ n
@@ -98,13 +98,7 @@ row_copied m i p x now log row tied from =
           absurd (both_ways (is_matched m.frame.slots p x) unmatched matched))
           (λ (unseen : v.seen ≤ p). unseen) (cases_lt p v.seen)),
     ))
-    (λ not. absurd (refused x not.1)) row
-  where
-    same_word : (a b : ℕ) → Word a ≡ Word b → a ≡ b
-    same_word a b e = cc
-
-    refused : (a : ℕ) → Word a ≡ Refused → ⊥
-    refused a e = cc
+    (λ not. absurd (word-refused x not.1)) row
 
 -- over a run
 pub run_copied : (m : Machine) (es : List Event) (outs : List Out) (now : Machine) (log : List Edge) → Run m es outs now → IsTied m log → (k i p x : ℕ) → IsAssured es outs k i p x → IsCopied m es outs (log ++ all_claims es outs) k i p x

@@ -123,6 +123,13 @@ row_released m i (StoreFlag why) out now log row tied =
 row_released m i Split out now log row tied = either_way (λ n. released m.words ≤ released n.words) _ _ _ m out now (omega arith) (λ can. omega arith) row
 row_released m i (Join j) out now log row tied = either_way (λ n. released m.words ≤ released n.words) _ _ _ m out now (omega arith) (λ can. omega arith) row
 
+-- an answer with a word is of one word, and is no refusal
+pub same_word : (a b : ℕ) → Word a ≡ Word b → a ≡ b
+same_word a b e = cc
+
+pub word-refused : (a : ℕ) → Word a ≡ Refused → ⊥
+word-refused a e = cc
+
 -- a matched word that was read in its turn is the log's
 pub row_ordered : (m : Machine) (i at x : ℕ) (now : Machine) (log : List Edge) → Row m i (LoadOrdered at) (Word x) now → IsTied m log → is_matched m.frame.slots at x ≡ true → get_elem? log at ≡ some (decode x)
 row_ordered m i at x now log row tied matched =
@@ -142,13 +149,7 @@ row_ordered m i at x now log row tied matched =
     let found = matched_is m.frame log m.words (views_of m.parties) at v.seen t s.seen_written (omega arith) from (ap (is_matched m.frame.slots at) (sym is) ∙ matched) in
     let same : decode x ≡ found.edge = ap decode {x = x} is ∙ matched-decode m.frame log m.words (views_of m.parties) at t (omega arith) found in
     found.there ∙ ap some (sym same))
-    (λ not. absurd (apart x not.1)) row
-  where
-    same_word : (a b : ℕ) → Word a ≡ Word b → a ≡ b
-    same_word a b e = cc
-
-    apart : (a : ℕ) → Word a ≡ Refused → ⊥
-    apart a e = cc
+    (λ not. absurd (word-refused x not.1)) row
 
 -- a run keeps the machine tied, to the log before followed by what was claimed
 pub run_tied : (m : Machine) (es : List Event) (outs : List Out) (now : Machine) (log : List Edge) → Run m es outs now → IsTied m log → IsTied now (log ++ all_claims es outs)
