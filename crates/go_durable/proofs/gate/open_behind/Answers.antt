@@ -8,6 +8,8 @@ use Rattle.go_durable.specs.Standing.{IsShut}
 use Rattle.go_durable.specs.Writing.{IsTornOf, IsWritten, IsShutOrOpened, StaysShut}
 use Rattle.go_durable.proofs.Moments.{joined, weaker}
 use Rattle.go_durable.proofs.Gates.{torn_body, IsBehind, body_behind, holds_closed, torn_gate, gate_opened}
+use Rattle.go_durable.proofs.gate.open_behind.Given.{Over}
+use Rattle.go_durable.proofs.gate.open_behind.Goals.{After-write_through-2}
 use Rattle.go_durable.proofs.gate.open_behind.Goals as goal
 
 -- the moments of the first write
@@ -44,25 +46,22 @@ returns-in_default-clause-moments g c = λ front inner shut gate_is body_is.
     first g.D.Disk.seen g.D.Disk.base g.D.Disk.images g.D.Disk.clock g.D.Disk.since front inner c.args.body.now c.args.gate c.args.disk.now c.write_through.new.disk shut gate_is
     (c.write_through.ensures.moments shut.quiet)
 
-pub returns-in_default-write_through-clause-moments : goal.returns-in_default-write_through-clause-moments
-returns-in_default-write_through-clause-moments g c = λ front inner shut gate_is body_is.
-    let P : List ℕ → Type 0 = IsShutOrOpened (g.D.Disk.seen c.args.disk.now) (c.args.gate + 1 + length c.args.body.now) front inner in
+-- the moments of both
+both : (g : Over) (c : After-write_through-2 g) (front inner : List ℕ) → IsShut g.D.Disk.seen g.D.Disk.base g.D.Disk.images front c.args.disk.now → c.args.gate ≡ length front → c.args.body.now ≡ inner ++ CLOSED ∷ [] →
+    LeavesOnly g.D.Disk.clock g.D.Disk.since c.args.disk.now c.write_through-2.new.disk (IsShutOrOpened (g.D.Disk.seen c.args.disk.now) (c.args.gate + 1 + length c.args.body.now) front inner)
+both g c front inner shut gate_is body_is =
     let written : IsWritten g.D.Disk.seen g.D.Disk.base g.D.Disk.images (c.args.gate + 1) c.args.body.now c.args.disk.now c.write_through.new.disk = c.in-Ok.ensures.done shut.quiet in
-    joined g.D.Disk.clock g.D.Disk.since c.args.disk.now c.write_through.new.disk c.write_through-2.new.disk P
+    joined g.D.Disk.clock g.D.Disk.since c.args.disk.now c.write_through.new.disk c.write_through-2.new.disk (IsShutOrOpened (g.D.Disk.seen c.args.disk.now) (c.args.gate + 1 + length c.args.body.now) front inner)
     (first g.D.Disk.seen g.D.Disk.base g.D.Disk.images g.D.Disk.clock g.D.Disk.since front inner c.args.body.now c.args.gate c.args.disk.now c.write_through.new.disk shut gate_is (c.write_through.ensures.moments shut.quiet))
     (second g.D.Disk.seen g.D.Disk.base g.D.Disk.images g.D.Disk.clock g.D.Disk.since front inner (c.args.gate + 1 + length c.args.body.now) c.args.gate c.args.disk.now c.write_through.new.disk c.write_through-2.new.disk gate_is
     (left g.D.Disk.seen g.D.Disk.base g.D.Disk.images front inner c.args.body.now c.args.gate c.args.disk.now c.write_through.new.disk shut gate_is body_is written)
     (c.write_through-2.ensures.moments written.quiet))
 
+pub returns-in_default-write_through-clause-moments : goal.returns-in_default-write_through-clause-moments
+returns-in_default-write_through-clause-moments g c = both g (goal.at.returns-in_default-write_through-clause-moments g c).After-write_through-2
+
 pub returns-clause-moments : goal.returns-clause-moments
-returns-clause-moments g c = λ front inner shut gate_is body_is.
-    let P : List ℕ → Type 0 = IsShutOrOpened (g.D.Disk.seen c.args.disk.now) (c.args.gate + 1 + length c.args.body.now) front inner in
-    let written : IsWritten g.D.Disk.seen g.D.Disk.base g.D.Disk.images (c.args.gate + 1) c.args.body.now c.args.disk.now c.write_through.new.disk = c.in-Ok.ensures.done shut.quiet in
-    joined g.D.Disk.clock g.D.Disk.since c.args.disk.now c.write_through.new.disk c.write_through-2.new.disk P
-    (first g.D.Disk.seen g.D.Disk.base g.D.Disk.images g.D.Disk.clock g.D.Disk.since front inner c.args.body.now c.args.gate c.args.disk.now c.write_through.new.disk shut gate_is (c.write_through.ensures.moments shut.quiet))
-    (second g.D.Disk.seen g.D.Disk.base g.D.Disk.images g.D.Disk.clock g.D.Disk.since front inner (c.args.gate + 1 + length c.args.body.now) c.args.gate c.args.disk.now c.write_through.new.disk c.write_through-2.new.disk gate_is
-    (left g.D.Disk.seen g.D.Disk.base g.D.Disk.images front inner c.args.body.now c.args.gate c.args.disk.now c.write_through.new.disk shut gate_is body_is written)
-    (c.write_through-2.ensures.moments written.quiet))
+returns-clause-moments g c = both g (goal.at.returns-clause-moments g c).After-write_through-2
 
 pub returns-clause-done : goal.returns-clause-done
 returns-clause-done g c = λ front inner shut gate_is body_is.

@@ -1,10 +1,23 @@
 -- `close_gate`: the gate stands closed already, or it is written.
-use Rattle.std.proofs.Common.{◌<◌, arith}
+use Rattle.std.proofs.Common.{ℕ, ◌<◌, arith}
+use Rattle.std.specs.Prelude.{IfSome}
 use Rattle.go_durable.specs.Attaching.{IsLeft}
+use Rattle.go_durable.specs.Moments.{LeavesOnly}
+use Rattle.go_durable.specs.Reading.{IsUnmadeOf}
+use Rattle.go_durable.specs.Standing.{IsQuiet}
 use Rattle.go_durable.specs.Writing.{IsTornOf}
 use Rattle.go_durable.proofs.Moments.{no_call, weaker}
 use Rattle.go_durable.proofs.Headers.{seen_is_left, gate_is_left, gate_is_closed, gate_was_closed}
+use Rattle.go_durable.proofs.making.close_gate.Given.{Over}
+use Rattle.go_durable.proofs.making.close_gate.Goals.{After-write_through}
 use Rattle.go_durable.proofs.making.close_gate.Goals as goal
+
+-- the moments of the write
+closing : (g : Over) (c : After-write_through g) (v : ℕ) → IsQuiet g.D.Disk.seen g.D.Disk.base g.D.Disk.images c.args.disk.now → IfSome (g.D.Disk.seen c.args.disk.now) (IsUnmadeOf c.args.len) →
+    LeavesOnly g.D.Disk.clock g.D.Disk.since c.args.disk.now c.write_through.new.disk (IsLeft v (g.D.Disk.seen c.args.disk.now))
+closing g c v quiet unmade =
+    weaker g.D.Disk.clock g.D.Disk.since c.args.disk.now c.write_through.new.disk (IsTornOf (g.D.Disk.seen c.args.disk.now) 0 1) (IsLeft v (g.D.Disk.seen c.args.disk.now))
+    (λ image torn. gate_is_left v c.args.len (g.D.Disk.seen c.args.disk.now) image unmade (omega arith) torn) (c.write_through.ensures.moments quiet)
 
 pub returns-then-len-ge2-clause-moments : goal.returns-then-len-ge2-clause-moments
 returns-then-len-ge2-clause-moments g c = λ v quiet unmade.
@@ -17,16 +30,10 @@ returns-then-len-ge2-clause-done g c = λ quiet unmade.
     record { shut = record { quiet = quiet; closed = was.0 }; short = was.1 }
 
 pub returns-in_default-clause-moments : goal.returns-in_default-clause-moments
-returns-in_default-clause-moments g c = λ v quiet unmade.
-    let short : c.args.len < 2 = omega arith in
-    weaker g.D.Disk.clock g.D.Disk.since c.args.disk.now c.write_through.new.disk (IsTornOf (g.D.Disk.seen c.args.disk.now) 0 1) (IsLeft v (g.D.Disk.seen c.args.disk.now))
-    (λ image torn. gate_is_left v c.args.len (g.D.Disk.seen c.args.disk.now) image unmade short torn) (c.write_through.ensures.moments quiet)
+returns-in_default-clause-moments g c = closing g (goal.at.returns-in_default-clause-moments g c).After-write_through
 
 pub returns-clause-moments : goal.returns-clause-moments
-returns-clause-moments g c = λ v quiet unmade.
-    let short : c.args.len < 2 = omega arith in
-    weaker g.D.Disk.clock g.D.Disk.since c.args.disk.now c.write_through.new.disk (IsTornOf (g.D.Disk.seen c.args.disk.now) 0 1) (IsLeft v (g.D.Disk.seen c.args.disk.now))
-    (λ image torn. gate_is_left v c.args.len (g.D.Disk.seen c.args.disk.now) image unmade short torn) (c.write_through.ensures.moments quiet)
+returns-clause-moments g c = closing g (goal.at.returns-clause-moments g c).After-write_through
 
 pub returns-clause-done : goal.returns-clause-done
 returns-clause-done g c = λ quiet unmade.

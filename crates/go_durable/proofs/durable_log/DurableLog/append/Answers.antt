@@ -3,18 +3,27 @@ use Rattle.std.proofs.Common.{◌≡◌, ℕ, ◌+◌, List, [], ◌∷◌, ◌+
 use Rattle.go_blocks.specs.declared.layout.TheConstants.{CLOSED}
 use Rattle.go_blocks.specs.declared.log_file.BlockPlace.{BlockPlace}
 use Rattle.go_text.specs.Causes.{Rose}
+use Rattle.go_word.specs.declared.edge.Edge.{Edge}
 use Rattle.go_durable.specs.Moments.{LeavesOnly}
-use Rattle.go_durable.specs.Standing.{IsShut}
+use Rattle.go_durable.specs.Recovery.{IsBeforeOrAfter}
+use Rattle.go_durable.specs.Standing.{IsShut, IsLog}
 use Rattle.go_durable.specs.Writing.{IsShutOrOpened, IsOpenedOn, StaysShut}
 use Rattle.go_durable.proofs.Growing.{append_moments, append_spends, append_grows, sound_more}
+use Rattle.go_durable.proofs.durable_log.DurableLog.append.Given.{Over}
+use Rattle.go_durable.proofs.durable_log.DurableLog.append.Goals.{After-open_behind}
 use Rattle.go_durable.proofs.durable_log.DurableLog.append.Goals as goal
 
-pub returns-in_default-open_behind-clause-moments : goal.returns-in_default-open_behind-clause-moments
-returns-in_default-open_behind-clause-moments g c = λ log is.
+-- the moments of the gate's opening
+moments : (g : Over) (c : After-open_behind g) (log : List Edge) → IsLog g.D.Disk.seen g.D.Disk.base g.D.Disk.images c.args.self log →
+    LeavesOnly g.D.Disk.clock g.D.Disk.since c.args.self.disk c.open_behind.new.disk (IsBeforeOrAfter c.args.self.vertices log c.args.edges.now)
+moments g c log is =
     append_moments g.D.Disk.seen g.D.Disk.base g.D.Disk.images g.D.Disk.clock g.D.Disk.since log c.args.edges.now c.args.self c.open_behind.new.disk c.self.inside.gate (c.self.inside.gate + 1 + length c.deref.result.now) c.deref.result.now
     c.requires.count c.requires.within (c.deref.ensures.value ∙ c.in-Ok.ensures.body) (ap (λ k. k.gate) c.self.view_is)
     (subst (λ (d : g.row.D.Denot). (front inner : List ℕ) → IsShut g.D.Disk.seen g.D.Disk.base g.D.Disk.images front d → c.self.inside.gate ≡ length front → c.deref.result.now ≡ inner ++ CLOSED ∷ [] →
     LeavesOnly g.D.Disk.clock g.D.Disk.since d c.open_behind.new.disk (IsShutOrOpened (g.D.Disk.seen d) (c.self.inside.gate + 1 + length c.deref.result.now) front inner)) (ap (λ k. k.disk) c.self.view_is) c.open_behind.ensures.moments) is
+
+pub returns-in_default-open_behind-clause-moments : goal.returns-in_default-open_behind-clause-moments
+returns-in_default-open_behind-clause-moments g c = moments g (goal.at.returns-in_default-open_behind-clause-moments g c).After-open_behind
 
 pub returns-in_default-open_behind-clause-answer : goal.returns-in_default-open_behind-clause-answer
 returns-in_default-open_behind-clause-answer g c = (
@@ -25,11 +34,7 @@ returns-in_default-open_behind-clause-answer g c = (
 )
 
 pub returns-clause-moments : goal.returns-clause-moments
-returns-clause-moments g c = λ log is.
-    append_moments g.D.Disk.seen g.D.Disk.base g.D.Disk.images g.D.Disk.clock g.D.Disk.since log c.args.edges.now c.args.self c.open_behind.new.disk c.self.inside.gate (c.self.inside.gate + 1 + length c.deref.result.now) c.deref.result.now
-    c.requires.count c.requires.within (c.deref.ensures.value ∙ c.in-Ok.ensures.body) (ap (λ k. k.gate) c.self.view_is)
-    (subst (λ (d : g.row.D.Denot). (front inner : List ℕ) → IsShut g.D.Disk.seen g.D.Disk.base g.D.Disk.images front d → c.self.inside.gate ≡ length front → c.deref.result.now ≡ inner ++ CLOSED ∷ [] →
-    LeavesOnly g.D.Disk.clock g.D.Disk.since d c.open_behind.new.disk (IsShutOrOpened (g.D.Disk.seen d) (c.self.inside.gate + 1 + length c.deref.result.now) front inner)) (ap (λ k. k.disk) c.self.view_is) c.open_behind.ensures.moments) is
+returns-clause-moments g c = moments g (goal.at.returns-clause-moments g c).After-open_behind
 
 pub returns-clause-answer : goal.returns-clause-answer
 returns-clause-answer g c =
