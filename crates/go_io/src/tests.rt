@@ -1,4 +1,4 @@
-// Shelves and sinks at small cases worked out by hand, each through its trait's bound, and the adapters on real files.
+// Shelves, sinks and gates at small cases worked out by hand, each through its trait's bound, and the adapters on real files.
 
 use super::*;
 use crate::folder_shelf::read_within;
@@ -24,6 +24,34 @@ fn fetch<S: Shelf>(
 // One put, through the bound.
 fn put<K: Sink>(sink: &mut K, bytes: &[u8]) -> Result<usize, Failed> {
     sink.put(bytes)
+}
+
+// The commands that come through a gate, in their order, through the bound.
+fn passed<G: Gate>(
+    alloc: Global,
+    gate: &G,
+    commands: &[(u8, u32)],
+) -> Result<Vec<(u8, u32)>, AllocError> {
+    let mut through = Vec::new(alloc);
+    for (session, command) in commands {
+        gate.pass(*session, *command);
+        through.push((*session, *command))?;
+    }
+    Ok(through)
+}
+
+// The turns of the workers that come through a gate, through the bound.
+fn worked<G: Gate>(
+    alloc: Global,
+    gate: &G,
+    turns: &[(Worker, u64)],
+) -> Result<Vec<(Worker, u64)>, AllocError> {
+    let mut through = Vec::new(alloc);
+    for (worker, front) in turns {
+        gate.work(*worker, *front);
+        through.push((*worker, *front))?;
+    }
+    Ok(through)
 }
 
 fn shelf_of_two(alloc: Global) -> Result<MemShelf, AllocError> {
@@ -215,5 +243,24 @@ fn interrupted_write_is_tried_again(rt: HostRuntime) {
 fn full_output_is_a_fault(rt: HostRuntime) -> Result<(), Fail> {
     let mut full = File::options().write(true).open(&rt, "/dev/full")?;
     assert_eq!(rt; write_piece(&mut full, b"session 1"), Err(Failed));
+    Ok(())
+}
+
+// In whatever order they come, and as often: a gate that held one of them would keep this test from its end.
+#[test]
+fn no_gate_lets_each_session_and_worker_through(rt: HostRuntime) -> Result<(), Fail> {
+    let alloc = rt.alloc();
+    let commands = [(1, 0), (2, 0), (1, 1), (1, 1), (255, u32::MAX), (1, 0)];
+    let through = passed(alloc, &NoGate, &commands)?;
+    assert_eq!(rt; through.as_slice(), commands.as_slice());
+    let turns = [
+        (Worker::Flusher, 7),
+        (Worker::Archiver, 0),
+        (Worker::Archiver, u64::MAX),
+        (Worker::Flusher, 7),
+        (Worker::Flusher, 0),
+    ];
+    let through = worked(alloc, &NoGate, &turns)?;
+    assert_eq!(rt; through.as_slice(), turns.as_slice());
     Ok(())
 }
