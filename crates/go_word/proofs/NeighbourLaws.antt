@@ -27,7 +27,8 @@ pub neighbours-entries_from : (log : List Edge) (s : ℕ) → neighbours (entrie
 neighbours-entries_from log s = after_entry-entries_from s [] log
 
 -- from any list of neighbours on, additions come behind it in their order
-pub after_entry-additions : (s : ℕ) (before : List ℕ) (log : List Edge) → IsOfAdditions log → fold (after_entry s) before log ≡ before ++ map (λ e. e.dst) (entries_from s log)
+pub after_entry-additions : (s : ℕ) (before : List ℕ) (log : List Edge) → IsOfAdditions log →
+    fold (after_entry s) before log ≡ before ++ map (λ e. e.dst) (entries_from s log)
 after_entry-additions s before [] adds = grind (arith, common_steps)
 after_entry-additions s before (e ∷ log) adds =
     let adds_first : e.del ≡ false = All-head (λ e. e.del ≡ false) e log adds in
@@ -65,4 +66,5 @@ without_first-absent d (y ∷ ys) none =
 
 -- a deletion at the end of a log takes the earliest copy of its destination
 pub neighbours-deletion : (log : List Edge) (e : Edge) → e.del ≡ true → neighbours (log ++ e ∷ []) e.src ≡ without_first e.dst (neighbours log e.src)
-neighbours-deletion log e deletes = let push : neighbours (log ++ e ∷ []) e.src ≡ after_entry e.src (neighbours log e.src) e = neighbours-push log e e.src in grind (arith, nat_tests)
+neighbours-deletion log e deletes = let push : neighbours (log ++ e ∷ []) e.src ≡ after_entry e.src (neighbours log e.src) e =
+    neighbours-push log e e.src in grind (arith, nat_tests)

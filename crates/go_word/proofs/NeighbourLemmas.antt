@@ -12,7 +12,8 @@ without_first_absent d (x ∷ xs) absent =
     grind (arith, nat_tests)
 
 -- the earliest d is taken out at its place
-pub without_first_at : (d : ℕ) (xs : List ℕ) (i : ℕ) → i < length xs → get_or xs i 0 ≡ d → ((k : ℕ) → k < i → get_or xs k 0 ≢ d) → remove xs i ≡ without_first d xs
+pub without_first_at : (d : ℕ) (xs : List ℕ) (i : ℕ) → i < length xs → get_or xs i 0 ≡ d → ((k : ℕ) → k < i → get_or xs k 0 ≢ d) →
+    remove xs i ≡ without_first d xs
 without_first_at d [] i within here before = absurd (omega arith)
 without_first_at d (x ∷ xs) zero within here before = grind (arith, nat_tests)
 without_first_at d (x ∷ xs) (suc i) within here before =

@@ -68,7 +68,8 @@ unfolding decode
 decode-sum_of r e bit storable =
     let source : e.src < ID_LIMIT = storable.within.source in
     let destination : e.dst < ID_LIMIT = storable.within.destination in
-    edge_is e _ _ _ (sum_of-deletion e.del r e.src e.dst bit source destination) (sum_of-source e.del r e.src e.dst bit source destination) (sum_of-destination e.del r e.src e.dst bit source destination)
+    edge_is e _ _ _ (sum_of-deletion e.del r e.src e.dst bit source destination) (sum_of-source e.del r e.src e.dst bit source destination)
+    (sum_of-destination e.del r e.src e.dst bit source destination)
 
 rotation_of-sum_of : (r : ℕ) (e : Edge) → r ≤ 1 → IsStorable e → rotation_of (sum_of e.del r e.src e.dst) ≡ r
 unfolding rotation_of
@@ -130,7 +131,8 @@ unfolding decode
 IsStorable-decode v w _ = record { within = record { source = omega arith; destination = omega arith } }
 
 -- a number of 64 bits is its parts
-parts : (w : ℕ) → w < 2 ^ 64 → (w / ROTATION % 2) ≡ 0 → (if (w / DELETION % 2) == 1 then DELETION else 0) + w / SOURCE % ID_LIMIT * SOURCE + w / DESTINATION % ID_LIMIT * DESTINATION ≡ w
+parts : (w : ℕ) → w < 2 ^ 64 → (w / ROTATION % 2) ≡ 0 → (if (w / DELETION % 2) == 1 then DELETION
+    else 0) + w / SOURCE % ID_LIMIT * SOURCE + w / DESTINATION % ID_LIMIT * DESTINATION ≡ w
 parts w fits unrotated =
     let bit : (if (w / DELETION % 2) == 1 then DELETION else 0) ≡ (w / DELETION % 2) * DELETION = grind (arith, nat_tests) in
     omega arith

@@ -1,4 +1,5 @@
--- The definitions of entries, logs and words.
+-- The definitions of entries, logs, words and pins.
 pub mod Log
 pub mod Neighbours
+pub mod Pins
 pub mod Word

@@ -1,4 +1,7 @@
-// One entry of the log.
+// One entry of the log, and how many vertices a graph may have.
+
+/// A graph has at most so many vertices.
+pub const VERTEX_LIMIT: u32 = 1 << 20;
 
 /// One entry of the log of a graph: that an edge is added, or that one is deleted.
 #[derive(Clone, Copy, Debug, PartialEq, Eq)]

@@ -33,8 +33,8 @@ fn apply(edge: &Edge, list: &mut Vec<u32>) -> Result<(), AllocError>
     Ok(())
 }
 
-// Takes the earliest `d` out of the list, where there is one.
-fn remove_first(list: &mut Vec<u32>, d: u32)
+/// Takes the earliest `d` out of a list of neighbours, where there is one.
+pub fn remove_first(list: &mut Vec<u32>, d: u32)
     ensures { list.new.items ≡ without_first d list.old.items }
 {
     if let Some(at) = earliest(list, d) {

@@ -1,5 +1,5 @@
 // Words of 64 bits: the layout, and both ways between it and an entry.
-ghost use Rattle.std.specs.Prelude.{◌≡◌, ℕ, ◌+◌, ◌<◌, ◌≤◌, true, false, IfSome, SomeIff};
+ghost use Rattle.std.specs.Prelude.{◌≡◌, ℕ, ◌+◌, ◌<◌, ◌≤◌, ◌==◌, true, false, IfSome, SomeIff};
 ghost use Rattle.go_word.specs.Log.{IsWithin};
 ghost use Rattle.go_word.specs.Word.{
   IsStorable,
@@ -108,6 +108,13 @@ fn rotation_at(p: u64, n: u64) -> u64
     ensures bit { result ≤ 1 }
 {
     1 - p / n % 2
+}
+
+/// Whether the rotation bit of a word is set, which it is in no word of a file.
+pub fn is_rotated(w: u64) -> bool
+    ensures { result ≡ (rotation_of w == 1) }
+{
+    rotation_in(w) == 1
 }
 
 // The rotation bit of a word.

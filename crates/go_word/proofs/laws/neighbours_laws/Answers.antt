@@ -1,7 +1,8 @@
 -- The laws of the neighbours: each by its lemma.
 use Rattle.std.proofs.Common.{◌∙◌, ap}
 use Rattle.go_word.specs.Neighbours.{copies, without_first}
-use Rattle.go_word.proofs.NeighbourLaws.{neighbours-entries_from, neighbours-additions, neighbours-deletion, copies-without_first, without_first-earliest, without_first-absent}
+use Rattle.go_word.proofs.NeighbourLaws.{neighbours-entries_from, neighbours-additions, neighbours-deletion, copies-without_first, without_first-earliest}
+use Rattle.go_word.proofs.NeighbourLaws.{without_first-absent}
 use Rattle.go_word.proofs.laws.neighbours_laws.Goals as goal
 
 pub returns-clause-own_entries : goal.returns-clause-own_entries

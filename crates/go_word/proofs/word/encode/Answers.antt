@@ -20,4 +20,5 @@ returns-clause-of_this_lap c = ap (is_matched c.args.n c.args.p) (returns-clause
 
 pub returns-clause-not_of_the_next : goal.returns-clause-not_of_the_next
 returns-clause-not_of_the_next c =
-    ap (is_matched c.args.n (c.args.p + c.args.n)) (returns-clause-exact c) ∙ is_matched-word_before c.args.n c.args.p c.args.e c.requires.slots c.requires.storable
+    ap (is_matched c.args.n (c.args.p + c.args.n)) (returns-clause-exact c)
+    ∙ is_matched-word_before c.args.n c.args.p c.args.e c.requires.slots c.requires.storable
