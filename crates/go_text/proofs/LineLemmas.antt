@@ -1,5 +1,6 @@
 -- How the lines of a text begin with its first line.
-use Rattle.std.proofs.Common.{◌≡◌, ℕ, ◌+◌, ◌-◌, ◌<◌, ◌≤◌, List, [], ◌∷◌, length, take, drop, min, ◌⊎◌, inl, inr, Bool, true, false, not, refl, sym, ap, ◌∙◌, arith, length-drop, length-take, length-take-le}
+use Rattle.std.proofs.Common.{◌≡◌, ℕ, ◌+◌, ◌-◌, ◌<◌, ◌≤◌, List, [], ◌∷◌, length, take, drop, min, ◌⊎◌, inl, inr, Bool, true, false, not, refl, sym, ap, ◌∙◌}
+use Rattle.std.proofs.Common.{arith, length-drop, length-take, length-take-le}
 use Rattle.std.proofs.lemmas.List.{take-take, take_all, drop_all, drop-drop, drop_min, take_min}
 use Rattle.std.proofs.lemmas.Bool.{cases_lt}
 use Rattle.std.proofs.lemmas.List.Splits.{slice_split_first, slice_split_none, length-slice_split}
@@ -14,12 +15,14 @@ abbrev pub is_feed : ℕ → Bool
 is_feed byte = byte == 10
 
 -- a part before others is a line that ends at a line feed
-part_before_others : (part : List ℕ) (parts : List (List ℕ)) → 0 < length parts → lines_of_parts (part ∷ parts) ≡ strip_carriage_return part ∷ lines_of_parts parts
+part_before_others : (part : List ℕ) (parts : List (List ℕ)) → 0 < length parts →
+    lines_of_parts (part ∷ parts) ≡ strip_carriage_return part ∷ lines_of_parts parts
 part_before_others part [] some = absurd (omega arith)
 part_before_others part (next ∷ more) some = refl
 
 -- the lines where there is a line feed
-lines-fed : (rest : List ℕ) → bytes_before_feed rest < length rest → lines rest ≡ strip_carriage_return (before_first is_feed rest) ∷ lines (drop (bytes_before_feed rest + 1) rest)
+lines-fed : (rest : List ℕ) → bytes_before_feed rest < length rest → lines rest
+    ≡ strip_carriage_return (before_first is_feed rest) ∷ lines (drop (bytes_before_feed rest + 1) rest)
 lines-fed rest fed =
     ap lines_of_parts (slice_split_first is_feed rest 0 fed)
     ∙ part_before_others _ (slice_split is_feed (after_first is_feed rest)) (omega (arith, length-slice_split is_feed (after_first is_feed rest)))
@@ -54,7 +57,8 @@ lines-first_line rest some =
     ]
 
 -- the front of a front, where that is no longer
-shorter_front : (m n : ℕ) (rest : List ℕ) → m ≤ length (take n rest) → (take (length (take m (take n rest))) rest ≡ take m (take n rest)) × (length (take m (take n rest)) ≤ n)
+shorter_front : (m n : ℕ) (rest : List ℕ) → m ≤ length (take n rest) →
+    (take (length (take m (take n rest))) rest ≡ take m (take n rest)) × (length (take m (take n rest)) ≤ n)
 shorter_front m n rest short =
     let long : length (take n rest) ≡ min n (length rest) = length-take n rest in
     let kept : length (take m (take n rest)) ≡ m = length-take-le m (take n rest) short in
@@ -65,7 +69,8 @@ take_length-take : (n : ℕ) (rest : List ℕ) → take (length (take n rest)) r
 take_length-take n rest = rw length-take (take_min n rest)
 
 -- a line without its carriage return is as many of its bytes as that has
-stripped_is_front : (n : ℕ) (rest : List ℕ) → (take (length (strip_carriage_return (take n rest))) rest ≡ strip_carriage_return (take n rest)) × (length (strip_carriage_return (take n rest)) ≤ n)
+stripped_is_front : (n : ℕ) (rest : List ℕ) → (take (length (strip_carriage_return (take n rest))) rest ≡ strip_carriage_return (take n rest))
+    × (length (strip_carriage_return (take n rest)) ≤ n)
 stripped_is_front n rest =
     elim (slice_index (take n rest) (length (take n rest) - 1) == 13) as
     (λ b. let l : List ℕ = if b then take (length (take n rest) - 1) (take n rest) else take n rest in (take (length l) rest ≡ l) × (length l ≤ n)) [
@@ -85,12 +90,15 @@ first_line_is_front rest =
 line_and_others : (text : List ℕ) (from : ℕ) →
     take (length (first_line (drop from text))) (drop from text) ≡ first_line (drop from text) →
     lines (drop from text) ≡ first_line (drop from text) ∷ lines (drop (bytes_before_feed (drop from text) + 1) (drop from text)) →
-    lines (drop from text) ≡ take ((from + length (first_line (drop from text))) - from) (drop from text) ∷ lines (drop (min (from + bytes_before_feed (drop from text) + 1) (length text)) text)
+    lines (drop from text) ≡ take ((from + length (first_line (drop from text))) - from) (drop from text) ∷ lines
+    (drop (min (from + bytes_before_feed (drop from text) + 1) (length text)) text)
 line_and_others text from front split =
     let long : (from + length (first_line (drop from text))) - from ≡ length (first_line (drop from text)) = omega arith in
     let there : from + (bytes_before_feed (drop from text) + 1) ≡ from + bytes_before_feed (drop from text) + 1 = omega arith in
-    let others : drop (bytes_before_feed (drop from text) + 1) (drop from text) ≡ drop (min (from + bytes_before_feed (drop from text) + 1) (length text)) text =
-    drop-drop (bytes_before_feed (drop from text) + 1) from text ∙ ap (λ (k : ℕ). drop k text) there ∙ sym (drop_min (from + bytes_before_feed (drop from text) + 1) text) in
+    let others : drop (bytes_before_feed (drop from text) + 1) (drop from text)
+    ≡ drop (min (from + bytes_before_feed (drop from text) + 1) (length text)) text =
+    drop-drop (bytes_before_feed (drop from text) + 1) from text ∙ ap (λ (k : ℕ). drop k text) there
+    ∙ sym (drop_min (from + bytes_before_feed (drop from text) + 1) text) in
     let line : first_line (drop from text) ≡ take ((from + length (first_line (drop from text))) - from) (drop from text) = sym (rw long front) in
     split
     ∙ ap (λ (l : List ℕ). l ∷ lines (drop (bytes_before_feed (drop from text) + 1) (drop from text))) line

@@ -1,5 +1,6 @@
 -- What decimal digits read as, digit by digit, and that a number's own digits read as that number.
-use Rattle.std.proofs.Common.{◌≡◌, ℕ, inl, inr, ◌+◌, ◌-◌, ◌*◌, ◌^◌, ◌/◌, ◌%◌, ◌<◌, ◌≤◌, List, [], ◌∷◌, ◌++◌, length, get_or, set, take, drop, true, sym, ap, ◌∙◌, append_assoc, length-append, length-drop, arith, Ok}
+use Rattle.std.proofs.Common.{◌≡◌, ℕ, inl, inr, ◌+◌, ◌-◌, ◌*◌, ◌^◌, ◌/◌, ◌%◌, ◌<◌, ◌≤◌, List, [], ◌∷◌, ◌++◌, length, get_or, set, take, drop, true, sym, ap}
+use Rattle.std.proofs.Common.{◌∙◌, append_assoc, length-append, length-drop, arith, Ok}
 use Rattle.std.proofs.lemmas.Bool.{cases_lt}
 use Rattle.std.proofs.lemmas.Bool.Decides.{nat_tests}
 use Rattle.std.proofs.lemmas.Fmt.{decimal_is_IsNumeral, first_decimal, decimal_digit, decimal_step, decimal_nonempty, length-decimal-le}
@@ -25,7 +26,8 @@ pub digit_within : (digits : List ℕ) (i : ℕ) → digits_in_front digits ≡ 
 digit_within digits i all inside = digit_range (get_or digits i 0) (prefix_len_passes is_ascii_digit digits i 0 (omega arith))
 
 -- one more digit
-pub value_of_more : (digits : List ℕ) (i : ℕ) → digits_in_front digits ≡ length digits → i < length digits → value_of (take (i + 1) digits) ≡ value_of (take i digits) * 10 + (get_or digits i 0 - 48)
+pub value_of_more : (digits : List ℕ) (i : ℕ) → digits_in_front digits ≡ length digits → i < length digits →
+    value_of (take (i + 1) digits) ≡ value_of (take i digits) * 10 + (get_or digits i 0 - 48)
 value_of_more digits i all inside =
     let range = digit_within digits i all inside in
     let own : digit_value (get_or digits i 0) + 48 ≡ get_or digits i 0 = digit_value_digit (get_or digits i 0) range in
@@ -44,7 +46,8 @@ all_in_front digits all =
     (λ past. absurd (omega arith))
 
 -- what is read once it is known to be all digits, and a value within the limit
-read_within : (limit : ℕ) (digits : List ℕ) → 0 < length digits → digits_in_front digits ≡ length digits → value_of digits ≤ limit → number_of limit digits ≡ Ok (value_of digits)
+read_within : (limit : ℕ) (digits : List ℕ) → 0 < length digits → digits_in_front digits ≡ length digits → value_of digits ≤ limit →
+    number_of limit digits ≡ Ok (value_of digits)
 read_within limit digits some all within = grind (arith, nat_tests)
 
 -- a number's own digits read as that number
@@ -70,7 +73,8 @@ decimal_is_numeral n small = record {
 }
 
 -- while a number's digits are written from the last one on, there is room for one more
-pub room_left : (n rest start : ℕ) (digits : List ℕ) → n < 2 ^ 64 → rest < 2 ^ 64 → length digits ≡ 20 → start ≤ 20 → decimal n ≡ decimal rest ++ drop start digits → 1 ≤ start
+pub room_left : (n rest start : ℕ) (digits : List ℕ) → n < 2 ^ 64 → rest < 2 ^ 64 → length digits ≡ 20 → start ≤ 20 →
+    decimal n ≡ decimal rest ++ drop start digits → 1 ≤ start
 room_left n rest start digits small below twenty inside so_far =
     let most : length (decimal n) ≤ 20 = length-decimal-le 20 n (omega arith) (omega arith) small in
     let one : 0 < length (decimal rest) = decimal_nonempty rest below in
@@ -79,13 +83,15 @@ room_left n rest start digits small below twenty inside so_far =
     omega arith
 
 -- a digit that is written before those that are there
-written_first : (start digit : ℕ) (digits : List ℕ) → 1 ≤ start → start ≤ length digits → drop (start - 1) (set digits (start - 1) digit) ≡ digit ∷ drop start digits
+written_first : (start digit : ℕ) (digits : List ℕ) → 1 ≤ start → start ≤ length digits →
+    drop (start - 1) (set digits (start - 1) digit) ≡ digit ∷ drop start digits
 written_first start digit digits some inside =
     let back : start - 1 + 1 ≡ start = omega arith in
     drop-set digits (start - 1) digit (omega arith) ∙ ap (λ (k : ℕ). digit ∷ drop k digits) back
 
 -- one more digit is written
-pub digit_written : (n rest start : ℕ) (digits : List ℕ) → rest < 2 ^ 64 → 10 ≤ rest → 1 ≤ start → start ≤ length digits → decimal n ≡ decimal rest ++ drop start digits → decimal n ≡ decimal (rest / 10) ++ drop (start - 1) (set digits (start - 1) (48 + rest % 10))
+pub digit_written : (n rest start : ℕ) (digits : List ℕ) → rest < 2 ^ 64 → 10 ≤ rest → 1 ≤ start → start ≤ length digits →
+    decimal n ≡ decimal rest ++ drop start digits → decimal n ≡ decimal (rest / 10) ++ drop (start - 1) (set digits (start - 1) (48 + rest % 10))
 digit_written n rest start digits below more some inside so_far =
     so_far
     ∙ ap (λ (ds : List ℕ). ds ++ drop start digits) (decimal_step rest more below)
@@ -93,7 +99,8 @@ digit_written n rest start digits below more some inside so_far =
     ∙ ap (λ (ds : List ℕ). decimal (rest / 10) ++ ds) (sym (written_first start (48 + rest % 10) digits some inside))
 
 -- the first digit is written
-pub first_written : (n rest start : ℕ) (digits : List ℕ) → rest < 10 → 1 ≤ start → start ≤ length digits → decimal n ≡ decimal rest ++ drop start digits → drop (start - 1) (set digits (start - 1) (48 + rest)) ≡ decimal n
+pub first_written : (n rest start : ℕ) (digits : List ℕ) → rest < 10 → 1 ≤ start → start ≤ length digits → decimal n ≡ decimal rest ++ drop start digits →
+    drop (start - 1) (set digits (start - 1) (48 + rest)) ≡ decimal n
 first_written n rest start digits last some inside so_far =
     written_first start (48 + rest) digits some inside
     ∙ sym (so_far ∙ ap (λ (ds : List ℕ). ds ++ drop start digits) (decimal_digit rest last))

@@ -1,5 +1,6 @@
 -- How the words of a line begin with its first word.
-use Rattle.std.proofs.Common.{◌≡◌, ℕ, ◌+◌, ◌-◌, ◌<◌, ◌≤◌, ◌⊎◌, inl, inr, List, [], ◌∷◌, length, get_or, take, drop, true, false, not, refl, sym, ap, ◌∙◌, arith, length-drop, length-take-le}
+use Rattle.std.proofs.Common.{◌≡◌, ℕ, ◌+◌, ◌-◌, ◌<◌, ◌≤◌, ◌⊎◌, inl, inr, List, [], ◌∷◌, length, get_or, take, drop, true, false, not, refl, sym, ap, ◌∙◌}
+use Rattle.std.proofs.Common.{arith, length-drop, length-take-le}
 use Rattle.std.proofs.lemmas.Bool.{cases_lt, cases_Bool}
 use Rattle.std.proofs.lemmas.List.{take_all, drop_all, drop-drop, drop_more, get_or-drop}
 use Rattle.std.proofs.Math.Numerals.{one-add}
@@ -35,28 +36,33 @@ kept_parts-cons : (part : List ℕ) (parts : List (List ℕ)) → 0 < length par
 kept_parts-cons part parts some = grind arith
 
 -- behind the bytes before a blank there are as many words as behind that blank
-words-at_blank : (tail : List ℕ) → position_or_len is_blank tail < length tail → words (drop (position_or_len is_blank tail) tail) ≡ words (drop (position_or_len is_blank tail + 1) tail)
+words-at_blank : (tail : List ℕ) → position_or_len is_blank tail < length tail →
+    words (drop (position_or_len is_blank tail) tail) ≡ words (drop (position_or_len is_blank tail + 1) tail)
 words-at_blank tail parted =
     ap words (drop_more tail (position_or_len is_blank tail) 0 parted)
     ∙ words-cons_blank (get_or tail (position_or_len is_blank tail) 0) (drop (position_or_len is_blank tail + 1) tail) (passes_at_first is_blank tail 0 parted)
 
 -- the words where a blank ends the first one
-words-parted : (tail : List ℕ) → 0 < position_or_len is_blank tail → position_or_len is_blank tail < length tail → words tail ≡ take (position_or_len is_blank tail) tail ∷ words (drop (position_or_len is_blank tail) tail)
+words-parted : (tail : List ℕ) → 0 < position_or_len is_blank tail → position_or_len is_blank tail < length tail →
+    words tail ≡ take (position_or_len is_blank tail) tail ∷ words (drop (position_or_len is_blank tail) tail)
 words-parted tail some parted =
-    let long : length (take (position_or_len is_blank tail) tail) ≡ position_or_len is_blank tail = length-take-le (position_or_len is_blank tail) tail (omega arith) in
+    let long : length (take (position_or_len is_blank tail) tail) ≡ position_or_len is_blank tail =
+    length-take-le (position_or_len is_blank tail) tail (omega arith) in
     ap kept_parts (slice_split_first is_blank tail 0 parted)
     ∙ kept_parts-cons (before_first is_blank tail) (slice_split is_blank (after_first is_blank tail)) (omega arith)
     ∙ ap (λ (more : List (List ℕ)). take (position_or_len is_blank tail) tail ∷ more) (sym (words-at_blank tail parted))
 
 -- the words where the bytes end with the first one
-words-alone : (tail : List ℕ) → 0 < length tail → length tail ≤ position_or_len is_blank tail → words tail ≡ take (position_or_len is_blank tail) tail ∷ words (drop (position_or_len is_blank tail) tail)
+words-alone : (tail : List ℕ) → 0 < length tail → length tail ≤ position_or_len is_blank tail →
+    words tail ≡ take (position_or_len is_blank tail) tail ∷ words (drop (position_or_len is_blank tail) tail)
 words-alone tail some alone =
     rw (take_all (position_or_len is_blank tail) tail alone, drop_all (position_or_len is_blank tail) tail alone)
     (ap kept_parts (slice_split_none is_blank tail (λ k d below. fails_before_first is_blank tail k d (omega arith)))
     ∙ kept_parts-cons tail [] some)
 
 -- the words of what begins with no blank: the bytes up to the first blank, and the words from there on
-words-first_word : (tail : List ℕ) → 0 < position_or_len is_blank tail → words tail ≡ take (position_or_len is_blank tail) tail ∷ words (drop (position_or_len is_blank tail) tail)
+words-first_word : (tail : List ℕ) → 0 < position_or_len is_blank tail →
+    words tail ≡ take (position_or_len is_blank tail) tail ∷ words (drop (position_or_len is_blank tail) tail)
 words-first_word tail some =
     let inside : position_or_len is_blank tail ≤ length tail = prefix_len-le-length (λ x. not (is_blank x)) tail in
     elim (cases_lt (position_or_len is_blank tail) (length tail)) [
@@ -102,7 +108,8 @@ word_ends line start long in_word inside =
     let length_tail : length (drop start line) ≡ length line - start = length-drop start line in
     let within : position_or_len is_blank (drop start line) ≤ length (drop start line) = prefix_len-le-length (λ x. not (is_blank x)) (drop start line) in
     elim (cases_lt long (length (drop start line))) [
-      | inl parted ↦ inr (ap is_blank (sym (get_or-drop start line long 0) ∙ ap (λ (k : ℕ). get_or (drop start line) k 0) in_word) ∙ passes_at_first is_blank (drop start line) 0 (omega arith))
+      | inl parted ↦ inr (ap is_blank (sym (get_or-drop start line long 0) ∙ ap (λ (k : ℕ). get_or (drop start line) k 0) in_word)
+          ∙ passes_at_first is_blank (drop start line) 0 (omega arith))
       | inr alone ↦ inl (omega arith)
     ]
 
@@ -115,19 +122,22 @@ word_at : (line : List ℕ) (from blanks long : ℕ) →
     IsNextWord line from (record { start = from + blanks; stop = from + blanks + long })
 word_at line from blanks long in_front in_word inside some =
     let length_tail : length (drop (from + blanks) line) ≡ length line - (from + blanks) = length-drop (from + blanks) line in
-    let within : position_or_len is_blank (drop (from + blanks) line) ≤ length (drop (from + blanks) line) = prefix_len-le-length (λ x. not (is_blank x)) (drop (from + blanks) line) in
+    let within : position_or_len is_blank (drop (from + blanks) line) ≤ length (drop (from + blanks) line) =
+    prefix_len-le-length (λ x. not (is_blank x)) (drop (from + blanks) line) in
     record {
       behind = omega arith;
       has_bytes = omega arith;
       inside = omega arith;
       blanks_before = λ k low high. ap is_blank (byte_behind line from k low) ∙ prefix_len_passes is_blank (drop from line) (k - from) 0 (omega arith);
-      no_blank_in = λ k low high. ap is_blank (byte_behind line (from + blanks) k low) ∙ fails_before_first is_blank (drop (from + blanks) line) (k - (from + blanks)) 0 (omega arith);
+      no_blank_in = λ k low high. ap is_blank (byte_behind line (from + blanks) k low)
+          ∙ fails_before_first is_blank (drop (from + blanks) line) (k - (from + blanks)) 0 (omega arith);
       ends = word_ends line (from + blanks) long in_word (omega arith);
       first = words_from line from blanks long in_front in_word some;
     }
 
 -- behind the blanks in front there is no blank
-no_blank_behind : (line : List ℕ) (from blanks : ℕ) → blanks ≡ prefix_len is_blank (drop from line) → from + blanks < length line → is_blank (get_or (drop (from + blanks) line) 0 0) ≡ false
+no_blank_behind : (line : List ℕ) (from blanks : ℕ) → blanks ≡ prefix_len is_blank (drop from line) → from + blanks < length line →
+    is_blank (get_or (drop (from + blanks) line) 0 0) ≡ false
 no_blank_behind line from blanks in_front inside =
     let long : length (drop from line) ≡ length line - from = length-drop from line in
     let same : from + blanks + 0 ≡ from + blanks = omega arith in
@@ -146,5 +156,6 @@ pub next_word_is : (line : List ℕ) (from blanks long : ℕ) →
     IsNextWord line from (record { start = from + blanks; stop = from + blanks + long })
 next_word_is line from blanks long in_front in_word inside =
     let length_tail : length (drop (from + blanks) line) ≡ length line - (from + blanks) = length-drop (from + blanks) line in
-    let some : 0 < position_or_len is_blank (drop (from + blanks) line) = some_before_blank (drop (from + blanks) line) (omega arith) (no_blank_behind line from blanks in_front inside) in
+    let some : 0 < position_or_len is_blank (drop (from + blanks) line) =
+    some_before_blank (drop (from + blanks) line) (omega arith) (no_blank_behind line from blanks in_front inside) in
     word_at line from blanks long in_front in_word inside (omega arith)

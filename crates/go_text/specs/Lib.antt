@@ -4,3 +4,6 @@ pub mod Word
 pub mod Number
 pub mod FaultKind
 pub mod Causes
+pub mod Steps
+pub mod Arguments
+pub mod Texts

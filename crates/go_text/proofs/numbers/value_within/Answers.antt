@@ -17,7 +17,11 @@ pub returns-in_err-value : goal.returns-in_err-value
 returns-in_err-value c =
     let more = value_of_more c.args.digits.now c.loop-digit.digit-index c.requires (omega arith) in
     let most = value_of-take-le c.args.digits.now (c.loop-digit.digit-index + 1) in
-    c.from_residual-in_err-value.ensures ∙ above_limit (value_of c.args.digits.now) c.args.limit (omega (arith, c.in_err-value.ensures, c.in_ok-checked_mul.ensures))
+    c.from_residual-in_err-value.ensures ∙ above_limit (value_of c.args.digits.now) c.args.limit (omega (
+      arith,
+      c.in_err-value.ensures,
+      c.in_ok-checked_mul.ensures,
+    ))
 
 pub loop-digit-preserved : goal.loop-digit-preserved
 loop-digit-preserved c =
