@@ -56,7 +56,12 @@ place_none entries name none =
 
 -- an entry with other bytes
 pub replaced_held : (entries : List Entry) (place : ℕ) (d : Entry) (bytes : Vec ℕ Global)
-    → IfSome (slice_get (map held_of entries) place) (λ one. map held_of (set entries place (record { name = (get_or entries place d).name; bytes = bytes; faults = (get_or entries place d).faults }))
+    → IfSome (slice_get (map held_of entries) place) (λ one. map held_of (set entries place (record {
+      name = (get_or entries place d).name;
+      bytes =
+          bytes;
+      faults = (get_or entries place d).faults;
+    }))
     ≡ set (map held_of entries) place (record one { bytes = bytes.items }))
 replaced_held [] place d bytes = tt
 replaced_held (entry ∷ entries) zero d bytes = refl
@@ -65,7 +70,12 @@ replaced_held (entry ∷ entries) (suc place) d bytes =
 
 -- an entry with another count
 pub counted_held : (entries : List Entry) (place : ℕ) (d : Entry) (count : ℕ) → count ≡ raised (get_or entries place d).faults
-    → IfSome (slice_get (map held_of entries) place) (λ one. map held_of (set entries place (record { name = (get_or entries place d).name; bytes = (get_or entries place d).bytes; faults = count }))
+    → IfSome (slice_get (map held_of entries) place) (λ one. map held_of (set entries place (record {
+      name = (get_or entries place d).name;
+      bytes =
+          (get_or entries place d).bytes;
+      faults = count;
+    }))
     ≡ set (map held_of entries) place (record one { faults = raised one.faults }))
 counted_held [] place d count e = tt
 counted_held (entry ∷ entries) zero d count e = ap (λ n. record { name = entry.name; bytes = entry.bytes.items; faults = n } ∷ map held_of entries) e

@@ -1,6 +1,6 @@
 -- Lemmas of the shelves and sinks.
 pub mod SinkLemmas
-pub mod HeldLemmas
+pub mod NamedTextLemmas
 pub mod EntryLemmas
 pub mod PutLemmas
 pub mod ReadLemmas

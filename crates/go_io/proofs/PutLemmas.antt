@@ -4,13 +4,13 @@ use Rattle.std.specs.Prelude.{None, Some, IfSome, find, position}
 use Rattle.std.specs.List.{slice_get}
 use Rattle.std.proofs.lemmas.List.{map-append}
 use Rattle.go_io.specs.Entries.{held_of}
-use Rattle.go_io.specs.MemShelf.{Held, Stock, is_named, PutsText}
+use Rattle.go_io.specs.MemShelf.{NamedText, Stock, is_named, PutsText}
 use Rattle.go_io.specs.declared.mem_shelf.Entry.{Entry}
 use Rattle.go_io.proofs.EntryLemmas.{place_found, place_none}
-use Rattle.go_io.proofs.HeldLemmas.{text_in-replaced, text_in-kept, faults_in-kept, text_in-added, text_in-beside, faults_in-added}
+use Rattle.go_io.proofs.NamedTextLemmas.{text_in-replaced, text_in-kept, faults_in-kept, text_in-added, text_in-beside, faults_in-added}
 
 -- a shelf with these entries
-abbrev pub with_held : Stock → List Held → Stock
+abbrev pub with_held : Stock → List NamedText → Stock
 with_held stock held = record stock { held = held }
 
 -- other bytes in the place of the name
@@ -33,9 +33,9 @@ pub puts_at_end : (stock : Stock) (entries : List Entry) (one : Entry) → one.f
     → None ≡ position (λ entry. is_named one.name (held_of entry)) entries
     → PutsText (with_held stock (map held_of entries)) (with_held stock (map held_of (entries ++ one ∷ []))) one.name one.bytes.items
 puts_at_end stock entries one same_count is_new =
-    let held : List Held = map held_of entries in
+    let held : List NamedText = map held_of entries in
     let absent : find (is_named one.name) held ≡ None = place_none entries one.name is_new in
-    let P : List Held → Type 0 = λ after. PutsText (with_held stock held) (with_held stock after) one.name one.bytes.items in
+    let P : List NamedText → Type 0 = λ after. PutsText (with_held stock held) (with_held stock after) one.name one.bytes.items in
     let ends : P (held ++ held_of one ∷ []) = record {
       here = text_in-added held (held_of one) absent;
       elsewhere = text_in-beside held (held_of one) absent;

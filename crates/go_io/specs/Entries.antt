@@ -1,11 +1,11 @@
 -- What the fields of a shelf in memory stand for.
 use Rattle.std.specs.Prelude.{map}
-use Rattle.go_io.specs.MemShelf.{Held, Stock}
+use Rattle.go_io.specs.MemShelf.{NamedText, Stock}
 use Rattle.go_io.specs.declared.mem_shelf.Entry.{Entry}
 use Rattle.go_io.specs.declared.mem_shelf.MemShelf.TheInside.{Inside}
 
 -- an entry as contracts see it
-abbrev pub held_of : Entry → Held
+abbrev pub held_of : Entry → NamedText
 held_of entry = record { name = entry.name; bytes = entry.bytes.items; faults = entry.faults }
 
 -- a shelf as contracts see it

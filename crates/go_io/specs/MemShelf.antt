@@ -7,32 +7,32 @@ use Rattle.go_io.specs.declared.shelf.Fetched.{Fetched}
 use Rattle.go_io.specs.declared.shelf.Fetched.TheVariants.{Whole, Missing, TooLong, Failed, Memory}
 
 -- a text that stands under a name, and how often a fetch of it failed
-pub record Held : Type 0 where
+pub record NamedText : Type 0 where
   pub name : List ℕ
   pub bytes : List ℕ
   pub faults : ℕ
 
 -- what a shelf holds, how often a fetch of any other name failed, the numbers of the calls that fail, and how many there were
 pub record Stock : Type 0 where
-  pub held : List Held
+  pub held : List NamedText
   pub other_faults : ℕ
   pub failing : List ℕ
   pub calls : ℕ
 
 -- it stands under this name
-abbrev pub is_named : List ℕ → Held → Bool
+abbrev pub is_named : List ℕ → NamedText → Bool
 is_named name one = bytes_eq one.name name
 
 -- the bytes under a name
-abbrev pub text_in : List Held → List ℕ → Option (List ℕ)
+abbrev pub text_in : List NamedText → List ℕ → Option (List ℕ)
 text_in held name = option_map (λ one. one.bytes) (find (is_named name) held)
 
 -- how often a fetch of a name failed: a name that is there has its own count, and all others have one
-abbrev pub faults_in : List Held → ℕ → List ℕ → ℕ
+abbrev pub faults_in : List NamedText → ℕ → List ℕ → ℕ
 faults_in held others name = option_map_or (λ one. one.faults) (find (is_named name) held) others
 
 -- two names have one count: they are the same, or neither is there
-abbrev pub shares_count : List Held → List ℕ → List ℕ → Bool
+abbrev pub shares_count : List NamedText → List ℕ → List ℕ → Bool
 shares_count held name other = bytes_eq name other || (is_none (find (is_named name) held) && is_none (find (is_named other) held))
 
 -- the bytes that a shelf has under a name

@@ -1,7 +1,8 @@
 -- A sink in memory, as contracts see it, and the exact answers of its puts.
-use Rattle.std.specs.Prelude.{◌⊎◌, ℕ, ◌-◌, ◌<◌, ◌≤◌, min, List, ◌++◌, length, take, Contains, Result, Ok, Err}
+use Rattle.std.specs.Prelude.{◌⊎◌, ℕ, ◌-◌, ◌<◌, ◌≤◌, min, List, ◌++◌, length, take, Contains, Some, Result, Ok, Err}
 use Rattle.go_text.specs.Causes.{raised}
 use Rattle.go_text.specs.declared.faults.Failed.{Failed}
+use Rattle.go_io.specs.Sink.{SinkState}
 
 -- the bytes that a sink has taken, the most that it takes at once, how many it has room for in all,
 -- the numbers of the calls that fail, how many calls there were, and how many of them failed
@@ -12,6 +13,10 @@ pub record Basin : Type 0 where
   pub failing : List ℕ
   pub calls : ℕ
   pub faults : ℕ
+
+-- how it stands as a sink
+abbrev pub sink_of : Basin → SinkState
+sink_of basin = record { taken = Some basin.taken; faults = basin.faults }
 
 -- a put of this piece fails: its number is listed, or the piece isn't empty and the room is full
 abbrev pub FailsAt : Basin → List ℕ → Type 0

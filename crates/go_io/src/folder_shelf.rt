@@ -2,9 +2,8 @@
 ghost use Rattle.std.specs.Prelude.{◌≡◌, ◌≤◌, [], length, None, Some, IfSome};
 ghost use Rattle.go_io.specs.Shelf.{FetchesText};
 
-use crate::counts::one_more;
 use crate::{Fetched, Shelf};
-use go_text::Text;
+use go_text::{Text, one_more};
 use std::fs::{self, OpenFile};
 use std::io::{ErrorKind, Read};
 use std::marker::Model;
@@ -49,20 +48,32 @@ impl<R: Files> Shelf for FolderShelf<'_, R> {
     }
 }
 
-// Opens a file and reads it.
+// Opens a file and reads it. No file has a name with a zero byte.
 fn fetch_file<R: Files>(rt: &R, name: &str, limit: u64, out: &mut Vec<u8>) -> Fetched
     requires { out.old.items ≡ [] }
     ensures within { result ≡ Fetched.Whole → length out.new.items ≤ limit }
 {
+    if name.as_bytes().contains(&0) {
+        return Fetched::Missing;
+    }
     let file = match fs::open(rt, name) {
         Ok(file) => file,
-        Err(error) if error.kind() == ErrorKind::NotFound => return Fetched::Missing,
+        Err(error) if leads_nowhere(error.kind()) => return Fetched::Missing,
         Err(_) => return Fetched::Failed,
     };
     match file.metadata() {
         Ok(facts) => read_within(file, facts.len(), limit, out),
         Err(_) => Fetched::Failed,
     }
+}
+
+// Whether an opening that failed so shows that nothing stands under the name: there is no such file or a link points to none,
+// a part of the path is a file, or the name is longer than any that the system has. After any other something may be there.
+fn leads_nowhere(kind: ErrorKind) -> bool {
+    matches!(
+        kind,
+        ErrorKind::NotFound | ErrorKind::NotADirectory | ErrorKind::InvalidFilename
+    )
 }
 
 // All that a reader has left, if that is at most `limit` bytes. It is asked for one byte more, to see whether there are more.

@@ -3,12 +3,11 @@ ghost use Rattle.std.specs.Prelude.{◌≡◌, ◌↔◌, ℕ, ◌∷◌, ◌++�
 ghost use Rattle.std.specs.Str.{bytes_eq};
 ghost use Rattle.go_text.specs.Causes.{Rose, raised};
 ghost use Rattle.go_io.specs.Shelf.{FetchesText};
-ghost use Rattle.go_io.specs.MemShelf.{Stock, Held, is_named, text_in, faults_in, shares_count, text_of, faults_of, FailsNow, answer_to, AnswersAs, faults_after, PutsText};
+ghost use Rattle.go_io.specs.MemShelf.{Stock, NamedText, is_named, text_in, faults_in, shares_count, text_of, faults_of, FailsNow, answer_to, AnswersAs, faults_after, PutsText};
 ghost use Rattle.go_io.specs.Entries.{held_of};
 
-use crate::counts::one_more;
 use crate::{Fetched, Shelf};
-use go_text::Text;
+use go_text::{Text, one_more};
 use std::alloc::{AllocError, Global};
 use std::marker::Model;
 

@@ -1,12 +1,11 @@
 // A sink in memory, for tests: it tells all it has taken, and fails exactly where it was told to.
 ghost use Rattle.std.specs.Prelude.{◌≡◌, ◌↔◌, ℕ, ◌∷◌, ◌++◌, [], ◌≤◌, List, Some, take, IfOk, OnOk, OnErr, IsErr};
 ghost use Rattle.go_text.specs.Causes.{HasCause};
-ghost use Rattle.go_io.specs.Sink.{IsTake, Takes};
-ghost use Rattle.go_io.specs.MemSink.{Basin, FailsAt, count_taken, after_put};
+ghost use Rattle.go_io.specs.Sink.{IsTake, Takes, TakesNothing};
+ghost use Rattle.go_io.specs.MemSink.{Basin, sink_of, FailsAt, count_taken, after_put};
 
 use crate::Sink;
-use crate::counts::one_more;
-use go_text::Failed;
+use go_text::{Failed, one_more};
 use std::alloc::{AllocError, Global};
 use std::marker::Model;
 
@@ -68,15 +67,13 @@ impl MemSink {
 }
 
 impl Sink for MemSink {
-    ghost taken = { λ basin. Some basin.taken };
-
-    ghost faults = { λ basin. basin.faults };
+    ghost stands = { sink_of };
 
     fn put(&mut self, bytes: &[u8]) -> Result<usize, Failed>
         ensures count { IfOk result (λ count. IsTake count bytes.now) }
-        ensures taken { IfOk result (λ count. Takes (Some self.old.taken) (Some self.new.taken) (take count bytes.now)) }
-        ensures err { OnErr result (Some self.new.taken ≡ Some self.old.taken) }
-        ensures cause { HasCause self.old.faults self.new.faults result }
+        ensures taken { IfOk result (λ count. Takes (sink_of self.old) (sink_of self.new) (take count bytes.now)) }
+        ensures err { OnErr result (TakesNothing (sink_of self.old) (sink_of self.new)) }
+        ensures cause { HasCause (sink_of self.old).faults (sink_of self.new).faults result }
 
         // When it fails, how much it takes where it doesn't, and all that it changes.
         ensures failed { IsErr result ↔ FailsAt self.old bytes.now }

@@ -4,8 +4,7 @@ ghost use Rattle.std.specs.Io.KnownBytes.{Appends, Keeps};
 ghost use Rattle.go_io.specs.Sink.{IsTake};
 
 use crate::Sink;
-use crate::counts::one_more;
-use go_text::Failed;
+use go_text::{Failed, one_more};
 use std::io::{self, ErrorKind, Write};
 use std::marker::Model;
 
@@ -34,9 +33,7 @@ impl<'a, R> StdSink<'a, R> {
 }
 
 impl<R: Print> Sink for StdSink<'_, R> {
-    ghost taken = { λ _. None };
-
-    ghost faults = { λ faults. faults };
+    ghost stands = { λ faults. record { taken = None; faults = faults } };
 
     fn put(&mut self, bytes: &[u8]) -> Result<usize, Failed> {
         let answer = write_piece(&mut io::writer(self.rt), bytes);

@@ -1,16 +1,12 @@
-// Shelves, sinks and gates at small cases worked out by hand, each through its trait's bound, and the adapters on real files.
+// Shelves and sinks in memory, and gates, at small cases worked out by hand, each through its trait's bound.
 
 use super::*;
-use crate::folder_shelf::read_within;
-use crate::std_sink::write_piece;
 use go_text::Text;
 use std::alloc::{AllocError, Global};
-use std::fs::{self, File};
-use std::io::{self, ErrorKind, Write};
 use std::test::Fail;
 
 // What a shelf answers to a name, through the bound.
-fn fetch<S: Shelf>(
+pub(crate) fn fetch<S: Shelf>(
     alloc: Global,
     shelf: &mut S,
     name: &str,
@@ -22,7 +18,7 @@ fn fetch<S: Shelf>(
 }
 
 // One put, through the bound.
-fn put<K: Sink>(sink: &mut K, bytes: &[u8]) -> Result<usize, Failed> {
+pub(crate) fn put<K: Sink>(sink: &mut K, bytes: &[u8]) -> Result<usize, Failed> {
     sink.put(bytes)
 }
 
@@ -151,101 +147,6 @@ fn whole_piece_goes_in_many_puts(rt: HostRuntime) -> Result<(), Fail> {
     Ok(())
 }
 
-#[test]
-fn folder_shelf_reads_files(rt: HostRuntime) -> Result<(), Fail> {
-    let alloc = rt.alloc();
-    let long = vec![in alloc; b'x'; 300_000]?;
-    fs::write(&rt, "long", long.as_slice())?;
-    fs::write(&rt, "text", "view 0\n")?;
-    fs::create_dir(&rt, "folder")?;
-    let mut shelf = FolderShelf::new(&rt);
-    let mut out = Vec::new(alloc);
-    let cases = [
-        ("text", 7, Fetched::Whole, 7),
-        ("text", 6, Fetched::TooLong, 7),
-        ("long", u64::MAX, Fetched::Whole, 300_000),
-        ("long", 299_999, Fetched::TooLong, 300_000),
-        ("long", 0, Fetched::TooLong, 1),
-        ("folder", 9, Fetched::Failed, 0),
-        ("absent", 9, Fetched::Missing, 0),
-        ("absent/text", 9, Fetched::Missing, 0),
-        ("text/below", 9, Fetched::Failed, 0),
-        ("", 9, Fetched::Missing, 0),
-    ];
-    for (name, limit, answer, count) in cases {
-        assert_eq!(rt;
-            fetch(alloc, &mut shelf, name, limit, &mut out)?,
-            answer,
-            "at {name:?}"
-        );
-        assert_eq!(rt; out.len(), count, "at {name:?}");
-    }
-    assert_eq!(rt;
-        fetch(alloc, &mut shelf, "text", 7, &mut out)?,
-        Fetched::Whole
-    );
-    assert_eq!(rt; out.as_slice(), b"view 0\n".as_slice());
-    fs::remove_file(&rt, "long")?;
-    fs::remove_file(&rt, "text")?;
-    fs::remove_dir(&rt, "folder")?;
-    Ok(())
-}
-
-#[test]
-fn one_byte_past_the_limit_is_read_and_no_more(rt: HostRuntime) -> Result<(), Fail> {
-    let mut rest = b"session 1".as_slice();
-    let mut out = Vec::new(rt.alloc());
-    assert_eq!(rt; read_within(&mut rest, 0, 3, &mut out), Fetched::TooLong);
-    assert_eq!(rt; rest, b"ion 1".as_slice());
-    Ok(())
-}
-
-// A writer whose first write is interrupted, and which then takes `most` bytes at once.
-#[derive(Drop)]
-struct Faltering {
-    interrupted: bool,
-    most: usize,
-}
-
-impl Write for Faltering {
-    fn write(&mut self, bytes: &[u8]) -> io::Result<usize> {
-        if self.interrupted {
-            return Ok(bytes.len().min(self.most));
-        }
-        self.interrupted = true;
-        Err(io::Error::from(ErrorKind::Interrupted))
-    }
-
-    fn flush(&mut self) -> io::Result<()> {
-        Ok(())
-    }
-}
-
-#[test]
-fn standard_output_takes_pieces(rt: HostRuntime) {
-    let mut sink = StdSink::new(&rt);
-    assert_eq!(rt; put(&mut sink, b"taken\n"), Ok(6));
-    assert_eq!(rt; put(&mut sink, b""), Ok(0));
-}
-
-#[test]
-fn interrupted_write_is_tried_again(rt: HostRuntime) {
-    for (most, answer) in [(5, Ok(5)), (9, Ok(9)), (0, Err(Failed))] {
-        let mut writer = Faltering {
-            interrupted: false,
-            most,
-        };
-        assert_eq!(rt; write_piece(&mut writer, b"session 1"), answer, "at {most}");
-    }
-}
-
-#[test]
-fn full_output_is_a_fault(rt: HostRuntime) -> Result<(), Fail> {
-    let mut full = File::options().write(true).open(&rt, "/dev/full")?;
-    assert_eq!(rt; write_piece(&mut full, b"session 1"), Err(Failed));
-    Ok(())
-}
-
 // In whatever order they come, and as often: a gate that held one of them would keep this test from its end.
 #[test]
 fn no_gate_lets_each_session_and_worker_through(rt: HostRuntime) -> Result<(), Fail> {
@@ -262,5 +163,18 @@ fn no_gate_lets_each_session_and_worker_through(rt: HostRuntime) -> Result<(), F
     ];
     let through = worked(alloc, &NoGate, &turns)?;
     assert_eq!(rt; through.as_slice(), turns.as_slice());
+    Ok(())
+}
+
+#[test]
+fn counting_gate_notes_who_passes(rt: HostRuntime) -> Result<(), Fail> {
+    let alloc = rt.alloc();
+    let gate = CountingGate::new();
+    assert_eq!(rt; (gate.tries(), gate.last(), gate.turns()), (0, (0, 0), 0));
+    let commands = [(1, 0), (255, u32::MAX), (2, 7)];
+    passed(alloc, &gate, &commands)?;
+    assert_eq!(rt; (gate.tries(), gate.last(), gate.turns()), (3, (2, 7), 0));
+    worked(alloc, &gate, &[(Worker::Flusher, 7), (Worker::Archiver, 0)])?;
+    assert_eq!(rt; (gate.tries(), gate.last(), gate.turns()), (3, (2, 7), 2));
     Ok(())
 }

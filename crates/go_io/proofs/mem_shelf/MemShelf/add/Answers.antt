@@ -21,7 +21,8 @@ returns-in-Some-clause-ok c =
     PutsText (stock_of c.self.inside) (with_held (stock_of c.self.inside) (map held_of after)) c.args.name.now c.in_ok-bytes.bytes.items in
     let kept : length c.replace_bytes.new.entries ≡ c.self.inside.entries.len = omega (arith, c.deref_mut.ensures.len, c.replace_bytes.auto.entries) in
     rw (← c.self.view_is, ← c.in_ok-bytes.ensures.items)
-    (subst P (sym (with_items_is c.self.inside.entries c.replace_bytes.new.entries kept)) (puts_in_place (stock_of c.self.inside) entries c.replace_bytes.new.entries c.args.name.now c.in_ok-bytes.bytes.items c.in-Some.place place changed))
+    (subst P (sym (with_items_is c.self.inside.entries c.replace_bytes.new.entries kept))
+    (puts_in_place (stock_of c.self.inside) entries c.replace_bytes.new.entries c.args.name.now c.in_ok-bytes.bytes.items c.in-Some.place place changed))
 
 pub returns-in_ok-push-in-None-clause-ok : goal.returns-in_ok-push-in-None-clause-ok
 returns-in_ok-push-in-None-clause-ok c =
@@ -31,4 +32,9 @@ returns-in_ok-push-in-None-clause-ok c =
     rw (c.deref.ensures.value, c.bytes.ensures) at c.in-None.ensures in
     let P : List ℕ → Type 0 = λ name. None ≡ position (λ entry. is_named name (held_of entry)) entries in
     rw (← c.self.view_is, c.in_ok-push-in-None.ensures.items, ← c.in_ok-bytes.ensures.items, ← one_name)
-    (puts_at_end (stock_of c.self.inside) entries (record { name = c.in_ok-name-in-None.name; bytes = c.in_ok-bytes.bytes; faults = c.self.inside.other_faults }) refl (subst P (sym one_name) place))
+    (puts_at_end (stock_of c.self.inside) entries (record {
+      name = c.in_ok-name-in-None.name;
+      bytes = c.in_ok-bytes.bytes;
+      faults =
+          c.self.inside.other_faults;
+    }) refl (subst P (sym one_name) place))

@@ -10,7 +10,7 @@ use Rattle.std.proofs.lemmas.List.Sums.{passes_at_first}
 use Rattle.std.proofs.lemmas.Option.{same_Some, none-some, slice_get-get_or, get_or_from_slice_get}
 use Rattle.std.proofs.lemmas.Slice.Eq.{bytes_eq-Decides}
 use Rattle.go_text.specs.Causes.{raised}
-use Rattle.go_io.specs.MemShelf.{Held, is_named, text_in, faults_in, shares_count}
+use Rattle.go_io.specs.MemShelf.{NamedText, is_named, text_in, faults_in, shares_count}
 
 -- a name is its own
 bytes_eq-self : (name : List ℕ) → bytes_eq name name ≡ true
@@ -21,50 +21,55 @@ bytes_eq-other : (name other : List ℕ) → name ≢ other → bytes_eq name ot
 bytes_eq-other name other differs = false_from_ne_true (bytes_eq name other) (λ e. differs ((bytes_eq-Decides name other).0 e))
 
 -- a text is found as before after a change that keeps the name and the bytes
-pub text_in-set : (held : List Held) (place : ℕ) (old new : Held) (other : List ℕ) → slice_get held place ≡ Some old
+pub text_in-set : (held : List NamedText) (place : ℕ) (old new : NamedText) (other : List ℕ) → slice_get held place ≡ Some old
     → new.name ≡ old.name → new.bytes ≡ old.bytes → text_in (set held place new) other ≡ text_in held other
 text_in-set [] place old new other there name bytes = refl
 text_in-set (one ∷ held) zero old new other there name bytes =
     let same : one ≡ old = same_Some one old there in
     let one_name : new.name ≡ one.name = rw same name in
     let one_bytes : new.bytes ≡ one.bytes = rw same bytes in
-    let rest : Option Held = find (is_named other) held in
-    let P : Bool → Type 0 = λ b. option_map (λ h. h.bytes) (cond b (Some new) rest) ≡ option_map (λ h. h.bytes) (cond (bytes_eq one.name other) (Some one) rest) in
+    let rest : Option NamedText = find (is_named other) held in
+    let P : Bool → Type 0 = λ b. option_map (λ h. h.bytes) (cond b (Some new) rest)
+    ≡ option_map (λ h. h.bytes) (cond (bytes_eq one.name other) (Some one) rest) in
     let Q : Bool → Type 0 = λ b. option_map (λ h. h.bytes) (cond b (Some new) rest) ≡ option_map (λ h. h.bytes) (cond b (Some one) rest) in
     let q : Q (bytes_eq one.name other) = elim (bytes_eq one.name other) as Q [ true ↦ ap Some one_bytes | false ↦ refl ] in
     subst P (ap (λ n. bytes_eq n other) (sym one_name)) q
 text_in-set (one ∷ held) (suc place) old new other there name bytes =
-    let P : Bool → Type 0 = λ b. option_map (λ h. h.bytes) (cond b (Some one) (find (is_named other) (set held place new))) ≡ option_map (λ h. h.bytes) (cond b (Some one) (find (is_named other) held)) in
+    let P : Bool → Type 0 = λ b. option_map (λ h. h.bytes) (cond b (Some one) (find (is_named other) (set held place new)))
+    ≡ option_map (λ h. h.bytes) (cond b (Some one) (find (is_named other) held)) in
     elim (bytes_eq one.name other) as P [ true ↦ refl | false ↦ text_in-set held place old new other there name bytes ]
 
 -- a count is found as before after a change that keeps the name and the count
-pub faults_in-set : (held : List Held) (place : ℕ) (old new : Held) (others : ℕ) (other : List ℕ) → slice_get held place ≡ Some old
+pub faults_in-set : (held : List NamedText) (place : ℕ) (old new : NamedText) (others : ℕ) (other : List ℕ) → slice_get held place ≡ Some old
     → new.name ≡ old.name → new.faults ≡ old.faults → faults_in (set held place new) others other ≡ faults_in held others other
 faults_in-set [] place old new others other there name faults = refl
 faults_in-set (one ∷ held) zero old new others other there name faults =
     let same : one ≡ old = same_Some one old there in
     let one_name : new.name ≡ one.name = rw same name in
     let one_faults : new.faults ≡ one.faults = rw same faults in
-    let rest : Option Held = find (is_named other) held in
-    let P : Bool → Type 0 = λ b. option_map_or (λ h. h.faults) (cond b (Some new) rest) others ≡ option_map_or (λ h. h.faults) (cond (bytes_eq one.name other) (Some one) rest) others in
-    let Q : Bool → Type 0 = λ b. option_map_or (λ h. h.faults) (cond b (Some new) rest) others ≡ option_map_or (λ h. h.faults) (cond b (Some one) rest) others in
+    let rest : Option NamedText = find (is_named other) held in
+    let P : Bool → Type 0 = λ b. option_map_or (λ h. h.faults) (cond b (Some new) rest) others
+    ≡ option_map_or (λ h. h.faults) (cond (bytes_eq one.name other) (Some one) rest) others in
+    let Q : Bool → Type 0 = λ b. option_map_or (λ h. h.faults) (cond b (Some new) rest) others
+    ≡ option_map_or (λ h. h.faults) (cond b (Some one) rest) others in
     let q : Q (bytes_eq one.name other) = elim (bytes_eq one.name other) as Q [ true ↦ one_faults | false ↦ refl ] in
     subst P (ap (λ n. bytes_eq n other) (sym one_name)) q
 faults_in-set (one ∷ held) (suc place) old new others other there name faults =
-    let P : Bool → Type 0 = λ b. option_map_or (λ h. h.faults) (cond b (Some one) (find (is_named other) (set held place new))) others ≡ option_map_or (λ h. h.faults) (cond b (Some one) (find (is_named other) held)) others in
+    let P : Bool → Type 0 = λ b. option_map_or (λ h. h.faults) (cond b (Some one) (find (is_named other) (set held place new))) others
+    ≡ option_map_or (λ h. h.faults) (cond b (Some one) (find (is_named other) held)) others in
     elim (bytes_eq one.name other) as P [ true ↦ refl | false ↦ faults_in-set held place old new others other there name faults ]
 
 -- a change at a place that is there changes what stands there
-place_changed : (held after : List Held) (place : ℕ) (f : Held → Held) → place < length held
+place_changed : (held after : List NamedText) (place : ℕ) (f : NamedText → NamedText) → place < length held
     → IfSome (slice_get held place) (λ one. after ≡ set held place (f one))
-    → (old : Held) × (slice_get held place ≡ Some old) × (after ≡ set held place (f old))
+    → (old : NamedText) × (slice_get held place ≡ Some old) × (after ≡ set held place (f old))
 place_changed held after place f within changed = go (slice_get held place) refl changed
   where
-    nothing : Held
+    nothing : NamedText
     nothing = record { name = []; bytes = []; faults = 0 }
 
-    go : (o : Option Held) → slice_get held place ≡ o → IfSome o (λ one. after ≡ set held place (f one))
-        → (old : Held) × (slice_get held place ≡ Some old) × (after ≡ set held place (f old))
+    go : (o : Option NamedText) → slice_get held place ≡ o → IfSome o (λ one. after ≡ set held place (f one))
+        → (old : NamedText) × (slice_get held place ≡ Some old) × (after ≡ set held place (f old))
     go (Some old) e h = (old, e, h)
     go None e h = absurd (none-some (get_or held place nothing) (sym e ∙ slice_get-get_or held place nothing within))
 
@@ -80,12 +85,12 @@ shared-neither true x y = refl
 shared-neither false x y = refl
 
 -- the place of a name is where it stands first
-module _ (held : List Held) (name : List ℕ) (place : ℕ) (first : place ≡ position_or_len (is_named name) held) (within : place < length held) where
+module _ (held : List NamedText) (name : List ℕ) (place : ℕ) (first : place ≡ position_or_len (is_named name) held) (within : place < length held) where
   -- what stands there has the name
-  pub find-there : (old : Held) → slice_get held place ≡ Some old → find (is_named name) held ≡ Some old
+  pub find-there : (old : NamedText) → slice_get held place ≡ Some old → find (is_named name) held ≡ Some old
   find-there old e = find_at (is_named name) held ∙ (ap (slice_get held) (sym first) ∙ e)
 
-  pub name-there : (old : Held) → slice_get held place ≡ Some old → old.name ≡ name
+  pub name-there : (old : NamedText) → slice_get held place ≡ Some old → old.name ≡ name
   name-there old e =
       let here : get_or held place old ≡ old = get_or_from_slice_get held place old old e in
       let inside : position_or_len (is_named name) held < length held = rw first at within in
@@ -94,11 +99,11 @@ module _ (held : List Held) (name : List ℕ) (place : ℕ) (first : place ≡ p
       (bytes_eq-Decides old.name name).0 (ap (is_named name) (sym here) ∙ at_place)
 
   -- the name finds what was put there
-  pub find-here : (new : Held) → new.name ≡ name → find (is_named name) (set held place new) ≡ Some new
+  pub find-here : (new : NamedText) → new.name ≡ name → find (is_named name) (set held place new) ≡ Some new
   find-here new same = find-set (is_named name) held place new first within (ap (λ n. bytes_eq n name) same ∙ bytes_eq-self name)
 
   -- another name finds what it found
-  pub find-elsewhere : (old new : Held) (other : List ℕ) → slice_get held place ≡ Some old → new.name ≡ name → name ≢ other
+  pub find-elsewhere : (old new : NamedText) (other : List ℕ) → slice_get held place ≡ Some old → new.name ≡ name → name ≢ other
       → find (is_named other) (set held place new) ≡ find (is_named other) held
   find-elsewhere old new other e same differs =
       let apart : bytes_eq name other ≡ false = bytes_eq-other name other differs in
@@ -107,7 +112,7 @@ module _ (held : List Held) (name : List ℕ) (place : ℕ) (first : place ≡ p
       (ap (λ n. bytes_eq n other) same ∙ apart)
 
   -- one more fault of the name that stands there
-  module _ (after : List Held) (changed : IfSome (slice_get held place) (λ one. after ≡ set held place (record one { faults = raised one.faults }))) where
+  module _ (after : List NamedText) (changed : IfSome (slice_get held place) (λ one. after ≡ set held place (record one { faults = raised one.faults }))) where
     pub text_in-counted : (other : List ℕ) → text_in after other ≡ text_in held other
     text_in-counted other =
         let was = place_changed held after place (λ one. record one { faults = raised one.faults }) within changed in
@@ -119,45 +124,52 @@ module _ (held : List Held) (name : List ℕ) (place : ℕ) (first : place ≡ p
         let was = place_changed held after place (λ one. record one { faults = raised one.faults }) within changed in
         by_name (bytes_eq name other) refl was.0 was.1 was.2
       where
-        count : Option Held → ℕ
+        count : Option NamedText → ℕ
         count o = option_map_or (λ h. h.faults) o others
 
-        by_name : (b : Bool) → bytes_eq name other ≡ b → (old : Held) → slice_get held place ≡ Some old → after ≡ set held place (record old { faults = raised old.faults })
+        by_name : (b : Bool) → bytes_eq name other ≡ b → (old : NamedText) → slice_get held place ≡ Some old →
+            after ≡ set held place (record old { faults = raised old.faults })
             → faults_in after others other ≡ (if shares_count held name other then raised (faults_in held others other) else faults_in held others other)
         by_name true e old there changes =
             let same : name ≡ other = (bytes_eq-Decides name other).0 e in
-            let new : Held = record old { faults = raised old.faults } in
-            let found : find (is_named other) after ≡ Some new = ap (find (is_named other)) changes ∙ subst (λ n. find (is_named n) (set held place new) ≡ Some new) same (find-here new (name-there old there)) in
+            let new : NamedText = record old { faults = raised old.faults } in
+            let found : find (is_named other) after ≡ Some new = ap (find (is_named other)) changes
+            ∙ subst (λ n. find (is_named n) (set held place new) ≡ Some new) same (find-here new (name-there old there)) in
             let before : find (is_named other) held ≡ Some old = subst (λ n. find (is_named n) held ≡ Some old) same (find-there old there) in
             ap (λ o. option_map_or (λ h. h.faults) o others) found
             ∙ (ap (λ o. raised (option_map_or (λ h. h.faults) o others)) (sym before)
             ∙ sym (shared-same (bytes_eq name other) _ _ _ e))
         by_name false e old there changes =
             let differs : name ≢ other = λ same. false≢true (sym e ∙ (bytes_eq-Decides name other).1 same) in
-            let found : find (is_named other) after ≡ find (is_named other) held = ap (find (is_named other)) changes ∙ find-elsewhere old (record old { faults = raised old.faults }) other there (name-there old there) differs in
+            let found : find (is_named other) after ≡ find (is_named other) held = ap (find (is_named other)) changes
+            ∙ find-elsewhere old (record old { faults = raised old.faults }) other there (name-there old there) differs in
             ap (λ o. option_map_or (λ h. h.faults) o others) found
             ∙ sym (shared-none (bytes_eq name other) _ _ _ e (ap (λ o. is_none o && is_none (find (is_named other) held)) (find-there old there)))
 
 -- one more fault of a name that isn't there is one of all those that aren't there
-pub faults_in-others : (held : List Held) (name : List ℕ) (others : ℕ) (other : List ℕ) → find (is_named name) held ≡ None
+pub faults_in-others : (held : List NamedText) (name : List ℕ) (others : ℕ) (other : List ℕ) → find (is_named name) held ≡ None
     → faults_in held (raised others) other ≡ (if shares_count held name other then raised (faults_in held others other) else faults_in held others other)
 faults_in-others held name others other absent = go (find (is_named other) held) refl
   where
-    go : (o : Option Held) → find (is_named other) held ≡ o
+    go : (o : Option NamedText) → find (is_named other) held ≡ o
         → faults_in held (raised others) other ≡ (if shares_count held name other then raised (faults_in held others other) else faults_in held others other)
     go None e = rw (absent, e) (sym (shared-neither (bytes_eq name other) _ _))
     go (Some one) e =
-        let apart : bytes_eq name other ≡ false = bytes_eq-other name other (λ same. none-some one (sym absent ∙ (ap (λ n. find (is_named n) held) same ∙ e))) in
+        let apart : bytes_eq name other ≡ false = bytes_eq-other name other (λ same. none-some one (sym absent
+        ∙ (ap (λ n. find (is_named n) held) same ∙ e))) in
         rw (absent, e) (sym (shared-none (bytes_eq name other) false _ _ apart refl))
 
 -- other bytes at the first place of a name
-module _ (held : List Held) (name : List ℕ) (place : ℕ) (first : place ≡ position_or_len (is_named name) held) (within : place < length held)
-    (after : List Held) (bytes : List ℕ) (changed : IfSome (slice_get held place) (λ one. after ≡ set held place (record one { bytes = bytes }))) where
+module _ (held : List NamedText) (name : List ℕ) (place : ℕ) (first : place ≡ position_or_len (is_named name) held) (within : place < length held)
+    (after : List NamedText) (bytes : List ℕ) (changed : IfSome (slice_get held place) (λ one. after ≡ set held place (record one { bytes = bytes }))) where
   pub text_in-replaced : text_in after name ≡ Some bytes
   text_in-replaced =
       let was = place_changed held after place (λ one. record one { bytes = bytes }) within changed in
       ap (λ h. text_in h name) was.2
-      ∙ ap (option_map (λ h. h.bytes)) (find-here held name place first within (record was.0 { bytes = bytes }) (name-there held name place first within was.0 was.1))
+      ∙ ap (option_map (λ h. h.bytes)) (find-here held name place first within (record was.0 {
+        bytes =
+            bytes;
+      }) (name-there held name place first within was.0 was.1))
 
   pub text_in-kept : (other : List ℕ) → other ≢ name → text_in after other ≡ text_in held other
   text_in-kept other differs =
@@ -172,12 +184,12 @@ module _ (held : List Held) (name : List ℕ) (place : ℕ) (first : place ≡ p
       ap (λ h. faults_in h others other) was.2 ∙ faults_in-set held place was.0 (record was.0 { bytes = bytes }) others other was.1 refl refl
 
 -- nothing more to look for
-option_or-none : (o : Option Held) → option_or o None ≡ o
+option_or-none : (o : Option NamedText) → option_or o None ≡ o
 option_or-none None = refl
 option_or-none (Some one) = refl
 
 -- a name that wasn't there, at the end
-module _ (held : List Held) (one : Held) (absent : find (is_named one.name) held ≡ None) where
+module _ (held : List NamedText) (one : NamedText) (absent : find (is_named one.name) held ≡ None) where
   -- it finds its own text
   pub text_in-added : text_in (held ++ one ∷ []) one.name ≡ Some one.bytes
   text_in-added = rw (find-append (is_named one.name) held (one ∷ []), absent, bytes_eq-self one.name)
@@ -195,11 +207,12 @@ module _ (held : List Held) (one : Held) (absent : find (is_named one.name) held
   pub faults_in-added : (other : List ℕ) → faults_in (held ++ one ∷ []) one.faults other ≡ faults_in held one.faults other
   faults_in-added other = rw (find-append (is_named other) held (one ∷ [])) (begins (find (is_named other) held) (bytes_eq one.name other))
     where
-      begins : (o : Option Held) (b : Bool) → option_map_or (λ h. h.faults) (option_or o (cond b (Some one) None)) one.faults ≡ option_map_or (λ h. h.faults) o one.faults
+      begins : (o : Option NamedText) (b : Bool) → option_map_or (λ h. h.faults) (option_or o (cond b (Some one) None)) one.faults
+          ≡ option_map_or (λ h. h.faults) o one.faults
       begins None true = refl
       begins None false = refl
       begins (Some old) b = refl
 
 -- a name has its own count
-pub shares_count-self : (held : List Held) (name : List ℕ) → shares_count held name name ≡ true
+pub shares_count-self : (held : List NamedText) (name : List ℕ) → shares_count held name name ≡ true
 shares_count-self held name = rw (bytes_eq-self name)
