@@ -1,5 +1,6 @@
 -- A session that writes behind a log alone: its entries lie there one after another.
-use Rattle.std.proofs.Common.{◌≡◌, ℕ, zero, suc, ◌+◌, ◌<◌, ◌≤◌, ◌==◌, if◌then◌else◌, List, [], ◌∷◌, ◌++◌, length, take, slice_get, Some, count_by, refl, ap, arith, sym, subst, ◌∙◌, inl, inr, length-append, append_assoc, drop, take-append-drop, add-one, zero-add, drop-cons}
+use Rattle.std.proofs.Common.{◌≡◌, ℕ, zero, suc, ◌+◌, ◌<◌, ◌≤◌, ◌==◌, if◌then◌else◌, List, [], ◌∷◌, ◌++◌, length, take, slice_get, Some, count_by, refl, ap}
+use Rattle.std.proofs.Common.{arith, sym, subst, ◌∙◌, inl, inr, length-append, append_assoc, drop, take-append-drop, add-one, zero-add, drop-cons}
 use Rattle.std.proofs.lemmas.Bool.Decides.{nat_tests, eqb_tells, leb_tells}
 use Rattle.std.proofs.Math.Seq.{take-append_seam}
 use Rattle.std.proofs.lemmas.List.{drop_all}
@@ -130,7 +131,8 @@ once_behind x own p above once =
     let step = count_cons p x own in
     elim (eqb_tells x p) [
       | inl h ↦ absurd (omega (arith, h.1))
-      | inr h ↦ let same : count_by (λ q. q == p) (x ∷ own) ≡ count_by (λ q. q == p) own = step ∙ rw h.0 (zero-add (count_by (λ q. q == p) own)) in sym same ∙ once
+      | inr h ↦ let same : count_by (λ q. q == p) (x ∷ own) ≡ count_by (λ q. q == p) own = step
+          ∙ rw h.0 (zero-add (count_by (λ q. q == p) own)) in sym same ∙ once
     ]
 
 -- how often one session alone owns a position
@@ -159,7 +161,8 @@ consecutive log (x ∷ own) (e ∷ puts) first rises placed once whole =
     let from : first ≤ x = rises.0 in
     let within : x < length log = slice_get_within log x e placed.0 in
     let here : x ≡ first = first_is_here x own first from rises.1 (once first (omega arith) (omega arith)) in
-    let rest : drop (x + 1) log ≡ puts = consecutive log own puts (x + 1) rises.1 placed.1 (λ p above below. once_behind x own p above (once p (omega arith) below)) (omega arith) in
+    let rest : drop (x + 1) log ≡ puts = consecutive log own puts (x + 1) rises.1 placed.1
+    (λ p above below. once_behind x own p above (once p (omega arith) below)) (omega arith) in
     subst (λ (n : ℕ). drop n log ≡ e ∷ puts) here (drop_at log x e placed.0 ∙ ap (λ l. e ∷ l) rest)
 
 -- where one session's entries are whole, the log is the old one and they behind it

@@ -1,2 +1,3 @@
--- The lemmas on positions and logs.
+-- The lemmas on positions, logs and standings.
 pub mod AloneLemmas
+pub mod StandingLemmas

@@ -1,5 +1,8 @@
 // What stands at a place of a session.
 
+/// How many places a session has.
+pub const PLACES: usize = 4;
+
 /// What a session keeps at one of its places.
 #[derive(Clone, Copy, Debug, PartialEq, Eq)]
 pub enum Place {
