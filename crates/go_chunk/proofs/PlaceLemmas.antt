@@ -27,7 +27,8 @@ pub record StandsAt (ps : List Piece) (i p o : ℕ) (d : Piece) : Type 0 where
   pub word : get_or (words_of_all ps) i 0 ≡ get_or (words_of (get_or ps p d)) o 0
 
 -- the place that the table tells is where the word stands
-pub stands_at : (classes : List ℕ) (ps : List Piece) (i p o : ℕ) (d : Piece) → HaveClasses classes ps → start_of classes p + o ≡ i → o < class_at classes p → i < length (words_of_all ps) → StandsAt ps i p o d
+pub stands_at : (classes : List ℕ) (ps : List Piece) (i p o : ℕ) (d : Piece) → HaveClasses classes ps → start_of classes p + o ≡ i →
+    o < class_at classes p → i < length (words_of_all ps) → StandsAt ps i p o d
 stands_at classes [] i p o d h found within inside = absurd (omega arith)
 stands_at classes (q ∷ ps) i zero o d h found within inside =
     let same : o ≡ i = omega (arith, start_of-zero classes) in
@@ -39,7 +40,10 @@ stands_at classes (q ∷ ps) i zero o d h found within inside =
     }
 stands_at classes (q ∷ ps) i (suc p) o d h found within inside =
     let behind : class_at classes 0 ≤ i = omega (arith, start_of-suc classes p) in
-    let later : StandsAt ps (i - class_at classes 0) p o d = stands_at (later_classes classes) ps (i - class_at classes 0) p o d h.1 (omega (arith, start_of-suc classes p)) (omega (arith, class_at-suc classes p)) (omega (arith, behind, h.0, length-append (words_of q) (words_of_all ps))) in
+    let later : StandsAt ps (i - class_at classes 0) p o d = stands_at (later_classes classes) ps (i - class_at classes 0) p o d h.1 (omega (
+      arith,
+      start_of-suc classes p,
+    )) (omega (arith, class_at-suc classes p)) (omega (arith, behind, h.0, length-append (words_of q) (words_of_all ps))) in
     record {
       inside = omega (arith, later.inside);
       within = later.within;
@@ -47,7 +51,8 @@ stands_at classes (q ∷ ps) i (suc p) o d h found within inside =
     }
 
 -- the place that the table tells lies in a piece that is there
-pub is_inside : (classes : List ℕ) (ps : List Piece) (i p o : ℕ) → HaveClasses classes ps → start_of classes p + o ≡ i → o < class_at classes p → i < length (words_of_all ps) → p < length ps
+pub is_inside : (classes : List ℕ) (ps : List Piece) (i p o : ℕ) → HaveClasses classes ps → start_of classes p + o ≡ i → o < class_at classes p →
+    i < length (words_of_all ps) → p < length ps
 is_inside classes [] i p o h found within inside = absurd (omega arith)
 is_inside classes (q ∷ ps) i p o h found within inside = (stands_at classes (q ∷ ps) i p o q h found within inside).inside
 
@@ -57,7 +62,8 @@ pub record IsPut (classes : List ℕ) (old new : List Piece) (i w : ℕ) : Type 
   pub put : words_of_all new ≡ set (words_of_all old) i w
 
 -- a word that is put into a piece, at the place that the table tells, is put into the words of all
-pub is_put : (classes : List ℕ) (ps : List Piece) (i p o w : ℕ) (q d : Piece) → HaveClasses classes ps → start_of classes p + o ≡ i → o < class_at classes p → i < length (words_of_all ps) → words_of q ≡ set (words_of (get_or ps p d)) o w → IsPut classes ps (set ps p q) i w
+pub is_put : (classes : List ℕ) (ps : List Piece) (i p o w : ℕ) (q d : Piece) → HaveClasses classes ps → start_of classes p + o ≡ i →
+    o < class_at classes p → i < length (words_of_all ps) → words_of q ≡ set (words_of (get_or ps p d)) o w → IsPut classes ps (set ps p q) i w
 is_put classes [] i p o w q d h found within inside is = absurd (omega arith)
 is_put classes (first ∷ ps) i zero o w q d h found within inside is =
     let same : o ≡ i = omega (arith, start_of-zero classes) in
@@ -68,13 +74,18 @@ is_put classes (first ∷ ps) i zero o w q d h found within inside is =
     }
 is_put classes (first ∷ ps) i (suc p) o w q d h found within inside is =
     let behind : class_at classes 0 ≤ i = omega (arith, start_of-suc classes p) in
-    let later : IsPut (later_classes classes) ps (set ps p q) (i - class_at classes 0) w = is_put (later_classes classes) ps (i - class_at classes 0) p o w q d h.1 (omega (arith, start_of-suc classes p)) (omega (arith, class_at-suc classes p)) (omega (arith, behind, h.0, length-append (words_of first) (words_of_all ps))) is in
+    let later : IsPut (later_classes classes) ps (set ps p q) (i - class_at classes 0) w =
+    is_put (later_classes classes) ps (i - class_at classes 0) p o w q d h.1 (omega (arith, start_of-suc classes p)) (omega (
+      arith,
+      class_at-suc classes p,
+    )) (omega (arith, behind, h.0, length-append (words_of first) (words_of_all ps))) is in
     record {
       kept = (h.0, later.kept);
       put = ap (λ l. words_of first ++ l) later.put ∙ sym (set-append_right (words_of first) (words_of_all ps) (class_at classes 0) i w h.0 behind);
     }
 
 -- pieces with one more of the next class have the classes of the table
-pub have_classes-more : (classes : List ℕ) (ps : List Piece) (q : Piece) → HaveClasses classes ps → length (words_of q) ≡ class_at classes (length ps) → HaveClasses classes (ps ++ q ∷ [])
+pub have_classes-more : (classes : List ℕ) (ps : List Piece) (q : Piece) → HaveClasses classes ps → length (words_of q) ≡ class_at classes (length ps) →
+    HaveClasses classes (ps ++ q ∷ [])
 have_classes-more classes [] q h class = (class, tt)
 have_classes-more classes (first ∷ ps) q h class = (h.0, have_classes-more (later_classes classes) ps q h.1 (class ∙ class_at-suc classes (length ps)))

@@ -1,5 +1,6 @@
 //! A chain of chunks: a list of words that grows without moving one.
-ghost use Rattle.std.specs.Prelude.{◌≡◌, ◌↔◌, ◌<◌, ◌≤◌, ◌+◌, ◌∷◌, ◌++◌, [], length, slice_index, take, IsTrue, IsOk, OnOk, OnErr};
+ghost use Rattle.std.specs.Prelude.{◌≡◌, ◌↔◌, ◌<◌, ◌≤◌, ◌+◌, ◌∷◌, ◌++◌, [], length, slice_index, take, max, IsTrue, IsOk, OnOk, OnErr};
+ghost use Rattle.go_chunk.specs.declared.classes.TheConstants.{LAST};
 
 use crate::classes::{FIRST, LAST, SECOND};
 use crate::spilled::Spilled;
@@ -84,9 +85,11 @@ impl Chain {
         }
     }
 
-    /// Makes room for `k` more words. Where memory is refused, the room that was made before stays.
+    /// Makes room for `k` more words, and for at most 255 beside them. Where memory is refused, the room that was made
+    /// before stays.
     pub fn reserve(&mut self, k: usize) -> Result<(), AllocError>
         ensures room { OnOk result (k ≤ self.new.spare) }
+        ensures no_more { self.new.spare ≤ max self.old.spare (k + 255) }
         ensures words { self.new.words ≡ self.old.words }
         ensures never_less { self.old.spare ≤ self.new.spare }
         ensures enough { k ≤ self.old.spare → IsOk result }
@@ -100,6 +103,7 @@ impl Chain {
     /// Adds the next chunk, where so many words more are wanted.
     fn grow(&mut self, missing: usize) -> Result<(), AllocError>
         ensures more { OnOk result (self.old.spare < self.new.spare) }
+        ensures one_chunk { self.new.spare ≤ self.old.spare + LAST }
         ensures words { self.new.words ≡ self.old.words }
         ensures err { OnErr result (self.new ≡ self.old) }
     {
@@ -246,6 +250,34 @@ mod tests {
         }
         chain.extend_from_slice(&[]);
         assert_eq!(rt; chain.len(), 7);
+        Ok(())
+    }
+
+    #[test]
+    fn a_hub_of_over_a_million_words_grows_by_slices(rt: HostRuntime) -> Result<(), Fail> {
+        let mut chain = Chain::new(rt.alloc());
+        let mut slice = Vec::with_capacity(rt.alloc(), 4096)?;
+        for first in 0..245u64 {
+            slice.clear();
+            for offset in 0..4096 {
+                slice.push(4096 * first + offset)?;
+            }
+            chain.reserve(slice.len())?;
+            assert!(rt; slice.len() <= chain.spare(), "at {first}");
+            assert!(rt; chain.spare() <= slice.len() + 255, "at {first}");
+            chain.extend_from_slice(&slice);
+        }
+        assert_eq!(rt; chain.len(), 1_003_520);
+        for i in [
+            0, 83, 84, 339, 340, 65_619, 65_620, 524_371, 524_372, 1_000_000, 1_003_519,
+        ] {
+            assert!(rt; i < chain.len());
+            assert_eq!(rt; chain.get(i), i as u64, "at {i}");
+        }
+        assert!(rt; 1_000_001 <= chain.len());
+        let mut out = Vec::new(rt.alloc());
+        chain.copy_front(1_000_001, &mut out)?;
+        assert_eq!(rt; (out.len(), out.last()), (1_000_001, Some(&1_000_000)));
         Ok(())
     }
 

@@ -5,4 +5,7 @@ use Rattle.go_chunk.proofs.CopyLemmas.{is_copying-next}
 use Rattle.go_chunk.proofs.pieces.copy_words.Goals as goal
 
 pub loop-piece-preserved : goal.loop-piece-preserved
-loop-piece-preserved c = is_copying-next _ _ _ _ _ _ _ c.piece-item.result _ c.loop-piece.invariant c.loop-piece-test.true c.piece-item.is (grind (arith, common_steps)) (grind (arith, common_steps))
+loop-piece-preserved c = is_copying-next _ _ _ _ _ _ _ c.piece-item.result _ c.loop-piece.invariant c.loop-piece-test.true c.piece-item.is (grind (
+  arith,
+  common_steps,
+)) (grind (arith, common_steps))

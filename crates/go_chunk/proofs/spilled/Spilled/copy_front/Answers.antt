@@ -10,8 +10,11 @@ pub returns-clause-ok : goal.returns-clause-ok
 returns-clause-ok c =
     let counted : c.min-in_second.result ≡ min c.args.k (length c.self.inside.second) = grind (arith, common_steps) in
     let one : c.extend_from_slice.new.self.items ≡ c.args.out.now.items ++ take c.min-in_second.result c.self.inside.second = grind (arith, common_steps) in
-    let both = copied-both c.args.out.now.items c.extend_from_slice.new.self.items c.copy_words.new.out.items c.self.inside.second (words_of_all c.self.inside.later.items) c.min-in_second.result c.args.k counted one in
-    on_ok_weaker c.copy_words.result (λ two. both (two ∙ ap (λ pieces. c.extend_from_slice.new.self.items ++ take (c.args.k - c.min-in_second.result) (words_of_all pieces)) c.deref.ensures.value) ∙ ap (λ l. c.args.out.now.items ++ take c.args.k l) c.self.view_is) c.copy_words.ensures.ok
+    let both = copied-both c.args.out.now.items c.extend_from_slice.new.self.items c.copy_words.new.out.items c.self.inside.second
+    (words_of_all c.self.inside.later.items) c.min-in_second.result c.args.k counted one in
+    on_ok_weaker c.copy_words.result (λ two. both (two ∙ ap (λ pieces. c.extend_from_slice.new.self.items
+    ++ take (c.args.k - c.min-in_second.result) (words_of_all pieces)) c.deref.ensures.value)
+    ∙ ap (λ l. c.args.out.now.items ++ take c.args.k l) c.self.view_is) c.copy_words.ensures.ok
 
 pub returns-clause-kept : goal.returns-clause-kept
 returns-clause-kept c =
