@@ -1,8 +1,10 @@
 -- The versions at or below a front are the first ones, and the last of them tells the count.
-use Rattle.std.proofs.Common.{◌≡◌, ◌≢◌, ℕ, zero, suc, ◌+◌, ◌-◌, ◌<◌, ◌≤◌, List, [], ◌∷◌, ◌++◌, length, get_or, take, drop, Bool, true, false, cond, refl, sym, ap, subst, ◌∙◌, arith, All, count_by, append-nil, drop-cons, length-drop, inl, inr, min, length-append, append_assoc}
+use Rattle.std.proofs.Common.{◌≡◌, ◌≢◌, ℕ, zero, suc, ◌+◌, ◌-◌, ◌<◌, ◌≤◌, List, [], ◌∷◌, ◌++◌, length, get_or, take, drop, Bool, true, false, cond, refl}
+use Rattle.std.proofs.Common.{sym, ap, subst, ◌∙◌, arith, All, count_by, append-nil, drop-cons, length-drop, inl, inr, min, length-append, append_assoc}
 use Rattle.std.proofs.lemmas.Bool.{le-leb, leb-true, leb-false, cases_lt}
-use Rattle.std.proofs.lemmas.List.{get_or_append_left, get_or-append_right, take-append-drop, length-take-le, get_or-drop, take_at}
-use Rattle.std.proofs.lemmas.List.Elements.{filter-append}
+use Rattle.std.proofs.lemmas.List.{get_or_append_left, get_or-append_right, take-append-drop, length-take-le, length-take, get_or-drop, get_or-take}
+use Rattle.std.proofs.lemmas.List.{get_or_default, take_at, take_more}
+use Rattle.std.proofs.lemmas.List.Elements.{filter-append, All-head, All-tail, All-cons, All-filter}
 use Rattle.std.proofs.lemmas.List.Quantifiers.{all_pairs_push}
 use Rattle.std.proofs.lemmas.List.Sums.{length-filter}
 use Rattle.std.proofs.lemmas.Grind.{common_steps}
@@ -29,11 +31,15 @@ filter-reaches front [] zero short h = refl
 filter-reaches front [] (suc i) short h = absurd (omega arith)
 filter-reaches front (v ∷ vs) zero short h =
     let above : reaches front v ≡ false = reaches-lt front v (h.1 0 v (omega arith) (omega arith)) in
-    let rest : filter (reaches front) vs ≡ take 0 vs = filter-reaches front vs 0 (omega arith) ((λ k d low high. absurd (omega arith)), λ k d low high. h.1 (suc k) d (omega arith) (omega arith)) in
+    let rest : filter (reaches front) vs ≡ take 0 vs = filter-reaches front vs 0 (omega arith) (
+      (λ k d low high. absurd (omega arith)),
+      λ k d low high. h.1 (suc k) d (omega arith) (omega arith),
+    ) in
     rw above rest
 filter-reaches front (v ∷ vs) (suc i) short h =
     let below : reaches front v ≡ true = reaches-le front v (h.0 0 v (omega arith) (omega arith)) in
-    let rest : filter (reaches front) vs ≡ take i vs = filter-reaches front vs i (omega arith) ((λ k d low high. h.0 (suc k) d (omega arith) (omega arith)), λ k d low high. h.1 (suc k) d (omega arith) (omega arith)) in
+    let rest : filter (reaches front) vs ≡ take i vs = filter-reaches front vs i (omega arith)
+    ((λ k d low high. h.0 (suc k) d (omega arith) (omega arith)), λ k d low high. h.1 (suc k) d (omega arith) (omega arith)) in
     rw below (ap (λ l. v ∷ l) rest)
 
 -- the last of the first versions tells their count
@@ -54,8 +60,10 @@ pub count_at-drop : (front f : ℕ) (vs : List Version) (n : ℕ) (d : Version) 
 count_at-drop front f vs n d short reached =
     let split : drop n vs ≡ get_or vs n d ∷ drop (suc n) vs = drop-cons vs n d short in
     let yes : reaches f (get_or vs n d) ≡ true = reaches-le f (get_or vs n d) reached in
-    let later : filter (reaches f) (drop n vs) ≡ get_or vs n d ∷ filter (reaches f) (drop (suc n) vs) = ap (filter (reaches f)) split ∙ ap (λ b. cond b (get_or vs n d ∷ filter (reaches f) (drop (suc n) vs)) (filter (reaches f) (drop (suc n) vs))) yes in
-    let whole : filter (reaches f) vs ≡ filter (reaches f) (take n vs) ++ filter (reaches f) (drop n vs) = ap (filter (reaches f)) (sym (take-append-drop n vs)) ∙ filter-append (reaches f) (take n vs) (drop n vs) in
+    let later : filter (reaches f) (drop n vs) ≡ get_or vs n d ∷ filter (reaches f) (drop (suc n) vs) = ap (filter (reaches f)) split
+    ∙ ap (λ b. cond b (get_or vs n d ∷ filter (reaches f) (drop (suc n) vs)) (filter (reaches f) (drop (suc n) vs))) yes in
+    let whole : filter (reaches f) vs ≡ filter (reaches f) (take n vs) ++ filter (reaches f) (drop n vs) =
+    ap (filter (reaches f)) (sym (take-append-drop n vs)) ∙ filter-append (reaches f) (take n vs) (drop n vs) in
     ap last_count later
     ∙ sym (last_count-append (filter (reaches f) (take n vs)) (get_or vs n d) (filter (reaches f) (drop (suc n) vs)))
     ∙ ap (λ l. last_count (filter (reaches f) (take n vs) ++ l)) (sym later)
@@ -73,14 +81,20 @@ count_at-push vs v f = ap last_count (filter-append (reaches f) vs (v ∷ [])) �
 -- fronts that rise do not fall
 pub is_non_decreasing : (vs : List Version) → IsRising vs → IsNonDecreasingBy (λ v. v.front) vs
 is_non_decreasing vs h i j d le inside =
-    elim (cases_lt i j) [ inl lt ↦ (let before : IsBefore (get_or vs i d) (get_or vs j d) = h i j d lt inside in omega (arith, before.front)) | inr ge ↦ (let same : i ≡ j = omega arith in rw same (omega arith)) ]
+    elim (cases_lt i j) [
+      | inl lt ↦ (let before : IsBefore (get_or vs i d) (get_or vs j d) = h i j d lt inside in omega (arith, before.front))
+      | inr ge ↦
+          (let same : i ≡ j = omega arith in rw same (omega arith))
+    ]
 
 -- a later version keeps the versions rising
-pub IsRising-push : (vs : List Version) (v : Version) → IsRising vs → All (λ w. w.front < v.front) vs → All (λ w. w.count ≤ v.count) vs → IsRising (vs ++ v ∷ [])
+pub IsRising-push : (vs : List Version) (v : Version) → IsRising vs → All (λ w. w.front < v.front) vs → All (λ w. w.count ≤ v.count) vs →
+    IsRising (vs ++ v ∷ [])
 IsRising-push vs v h later more = all_pairs_push IsBefore vs v h (λ k d inside. record { front = later k d inside; count = more k d inside })
 
 -- what a test that is true of the first part and false of the rest says of the fronts
-pub PartsAt-from_tests : (front : ℕ) (vs : List Version) (i : ℕ) → IsPartitionPoint (λ v. reaches front v ≡ true) (λ v. reaches front v ≡ false) vs i → PartsAt front vs i
+pub PartsAt-from_tests : (front : ℕ) (vs : List Version) (i : ℕ) → IsPartitionPoint (λ v. reaches front v ≡ true) (λ v. reaches front v ≡ false) vs i →
+    PartsAt front vs i
 PartsAt-from_tests front vs i h =
     ((λ k d low high. leb-true (get_or vs k d).front front (h.0 k d low high)), λ k d low high. leb-false (get_or vs k d).front front (h.1 k d low high))
 
@@ -92,8 +106,10 @@ IsRising-drop vs n h i j d lt inside =
 
 -- without some of the first versions, fewer are at or below the front
 pub PartsAt-drop : (front : ℕ) (vs : List Version) (i n : ℕ) → n ≤ i → PartsAt front vs i → PartsAt front (drop n vs) (i - n)
-PartsAt-drop front vs i n le h =
-    ((λ k d low high. rw get_or-drop (h.0 (n + k) d (omega arith) (omega arith))), λ k d low high. rw get_or-drop (h.1 (n + k) d (omega arith) (omega (arith, length-drop n vs))))
+PartsAt-drop front vs i n le h = (
+  (λ k d low high. rw get_or-drop (h.0 (n + k) d (omega arith) (omega arith))),
+  λ k d low high. rw get_or-drop (h.1 (n + k) d (omega arith) (omega (arith, length-drop n vs))),
+)
 
 -- as many versions reach the front as stand in the first part
 pub count_by-reaches : (front : ℕ) (vs : List Version) (i : ℕ) → i ≤ length vs → PartsAt front vs i → count_by (reaches front) vs ≡ i
@@ -104,7 +120,8 @@ count_by-reaches front vs i short h =
 pub count_by-kept : (front : ℕ) (vs : List Version) (i : ℕ) → i ≤ length vs → PartsAt front vs i → count_by (reaches front) (drop (i - 1) vs) ≤ 1
 count_by-kept front vs i short h =
     let few : i - (i - 1) ≤ 1 = omega arith in
-    let counted : count_by (reaches front) (drop (i - 1) vs) ≡ i - (i - 1) = count_by-reaches front (drop (i - 1) vs) (i - (i - 1)) (omega (arith, length-drop (i - 1) vs)) (PartsAt-drop front vs i (i - 1) (omega arith) h) in
+    let counted : count_by (reaches front) (drop (i - 1) vs) ≡ i - (i - 1) =
+    count_by-reaches front (drop (i - 1) vs) (i - (i - 1)) (omega (arith, length-drop (i - 1) vs)) (PartsAt-drop front vs i (i - 1) (omega arith) h) in
     omega arith
 
 -- where no version reaches the front, the count is 0
@@ -113,7 +130,8 @@ count_at-none front vs i short h none =
     sym (ap last_count (filter-reaches front vs i short h) ∙ ap (λ k. last_count (take k vs)) none)
 
 -- the last of the versions that reach the front tells the count
-pub count_at-last : (front : ℕ) (vs : List Version) (i : ℕ) (d : Version) → i ≤ length vs → PartsAt front vs i → i ≢ 0 → (get_or vs (i - 1) d).count ≡ count_at vs front
+pub count_at-last : (front : ℕ) (vs : List Version) (i : ℕ) (d : Version) → i ≤ length vs → PartsAt front vs i → i ≢ 0 →
+    (get_or vs (i - 1) d).count ≡ count_at vs front
 count_at-last front vs zero d short h some = absurd (some refl)
 count_at-last front vs (suc i) d short h some =
     let before : suc i - 1 ≡ i = omega arith in
@@ -130,7 +148,8 @@ count_at-kept front f (v ∷ vs) (suc i) short h le =
     ap (λ k. count_at (drop k (v ∷ vs)) f) before ∙ count_at-drop front f (v ∷ vs) i v (omega arith) (omega arith)
 
 -- a list whose front is turned to its end and cut off there has lost its front
-pub turned_and_cut : (vs turned left : List Version) (n kept : ℕ) → n ≤ length vs → turned ≡ drop n vs ++ take n vs → left ≡ take kept turned → kept ≡ length vs - n → left ≡ drop n vs
+pub turned_and_cut : (vs turned left : List Version) (n kept : ℕ) → n ≤ length vs → turned ≡ drop n vs ++ take n vs → left ≡ take kept turned →
+    kept ≡ length vs - n → left ≡ drop n vs
 turned_and_cut vs turned left n kept short one two counted =
     two ∙ ap (take kept) one ∙ take_at (drop n vs) (take n vs) kept (omega (arith, length-drop n vs))
 
@@ -141,7 +160,8 @@ pub record HasRetired (front : ℕ) (vs left : List Version) : Type 0 where
   pub at : (f : ℕ) → front ≤ f → count_at left f ≡ count_at vs f
 
 -- giving up all versions before the last that reaches the front retires it
-pub has_retired : (front : ℕ) (slice vs left : List Version) (i : ℕ) → slice ≡ vs → i ≤ length slice → PartsAt front slice i → left ≡ drop (i - 1) vs → HasRetired front vs left
+pub has_retired : (front : ℕ) (slice vs left : List Version) (i : ℕ) → slice ≡ vs → i ≤ length slice → PartsAt front slice i → left ≡ drop (i - 1) vs →
+    HasRetired front vs left
 has_retired front slice vs left i same bound parts left_is =
     let P : List Version → Type 0 = λ l. (i ≤ length l) × PartsAt front l i in
     let found : P vs = subst P same (bound, parts) in
@@ -155,25 +175,32 @@ has_retired front slice vs left i same bound parts left_is =
 pub IsRising-left : (xs ys : List Version) → IsRising (xs ++ ys) → IsRising xs
 IsRising-left xs ys h = λ i j d lt inside.
     let long : length (xs ++ ys) ≡ length xs + length ys = length-append xs ys in
-    subst (λ (v : Version). IsBefore v (get_or xs j d)) (get_or_append_left xs ys d i (omega arith)) (subst (λ (v : Version). IsBefore (get_or (xs ++ ys) i d) v) (get_or_append_left xs ys d j inside) (h i j d lt (omega (arith, long))))
+    subst (λ (v : Version). IsBefore v (get_or xs j d)) (get_or_append_left xs ys d i (omega arith))
+    (subst (λ (v : Version). IsBefore (get_or (xs ++ ys) i d) v) (get_or_append_left xs ys d j inside) (h i j d lt (omega (arith, long))))
 
 -- and so does what follows it
 pub IsRising-right : (xs ys : List Version) → IsRising (xs ++ ys) → IsRising ys
 IsRising-right xs ys h = λ i j d lt inside.
     let long : length (xs ++ ys) ≡ length xs + length ys = length-append xs ys in
-    let at : (k : ℕ) → get_or (xs ++ ys) (length xs + k) d ≡ get_or ys k d = λ k. get_or-append_right xs ys (length xs) (length xs + k) d refl (omega arith) ∙ ap (λ n. get_or ys n d) (let n : length xs + k - length xs ≡ k = omega arith in n) in
-    subst (λ (v : Version). IsBefore v (get_or ys j d)) (at i) (subst (λ (v : Version). IsBefore (get_or (xs ++ ys) (length xs + i) d) v) (at j) (h (length xs + i) (length xs + j) d (omega arith) (omega (arith, long))))
+    let at : (k : ℕ) → get_or (xs ++ ys) (length xs + k) d ≡ get_or ys k d =
+    λ k. get_or-append_right xs ys (length xs) (length xs + k) d refl (omega arith)
+    ∙ ap (λ n. get_or ys n d) (let n : length xs + k - length xs ≡ k = omega arith in n) in
+    subst (λ (v : Version). IsBefore v (get_or ys j d)) (at i) (subst (λ (v : Version). IsBefore (get_or (xs ++ ys) (length xs + i) d) v) (at j)
+    (h (length xs + i) (length xs + j) d (omega arith) (omega (arith, long))))
 
 -- where some of what follows reaches a front, all of the first part does
-pub PartsAt-both : (front : ℕ) (xs ys : List Version) (j : ℕ) → IsRising (xs ++ ys) → j ≤ length ys → j ≢ 0 → PartsAt front ys j → PartsAt front (xs ++ ys) (length xs + j)
+pub PartsAt-both : (front : ℕ) (xs ys : List Version) (j : ℕ) → IsRising (xs ++ ys) → j ≤ length ys → j ≢ 0 → PartsAt front ys j →
+    PartsAt front (xs ++ ys) (length xs + j)
 PartsAt-both front xs ys j rises short some h =
     let long : length (xs ++ ys) ≡ length xs + length ys = length-append xs ys in
-    let later : (k : ℕ) (d : Version) → length xs ≤ k → get_or (xs ++ ys) k d ≡ get_or ys (k - length xs) d = λ k d le. get_or-append_right xs ys (length xs) k d refl le in (
+    let later : (k : ℕ) (d : Version) → length xs ≤ k → get_or (xs ++ ys) k d ≡ get_or ys (k - length xs) d =
+    λ k d le. get_or-append_right xs ys (length xs) k d refl le in (
       (λ k d low high. elim (cases_lt k (length xs)) [
         | inl early ↦
             let before : IsBefore (get_or (xs ++ ys) k d) (get_or (xs ++ ys) (length xs) d) = rises k (length xs) d early (omega (arith, long, some, short)) in
             let first : (get_or ys (length xs - length xs) d).front ≤ front = h.0 (length xs - length xs) d (omega arith) (omega (arith, some)) in
-            let same : (get_or (xs ++ ys) (length xs) d).front ≡ (get_or ys (length xs - length xs) d).front = ap (λ v. v.front) (later (length xs) d (omega arith)) in
+            let same : (get_or (xs ++ ys) (length xs) d).front ≡ (get_or ys (length xs - length xs) d).front =
+            ap (λ v. v.front) (later (length xs) d (omega arith)) in
             omega (arith, before.front, first, same)
         | inr behind ↦
             let here : (get_or ys (k - length xs) d).front ≤ front = h.0 (k - length xs) d (omega arith) (omega (arith, behind, high)) in
@@ -187,7 +214,8 @@ PartsAt-both front xs ys j rises short some h =
     )
 
 -- a version behind the first ones, where no later ones are, is the last
-pub pushed_early : (early noted now new : List Version) (v : Version) → early ++ noted ≡ now → length noted ≡ 0 → new ≡ early ++ v ∷ [] → new ++ noted ≡ now ++ v ∷ []
+pub pushed_early : (early noted now new : List Version) (v : Version) → early ++ noted ≡ now → length noted ≡ 0 → new ≡ early ++ v ∷ [] →
+    new ++ noted ≡ now ++ v ∷ []
 pushed_early early [] now new v is none more = append-nil new ∙ more ∙ ap (λ l. l ++ v ∷ []) (sym (append-nil early) ∙ is)
 pushed_early early (x ∷ xs) now new v is none more = absurd (omega arith)
 
@@ -196,12 +224,14 @@ pub pushed_later : (early noted now new : List Version) (v : Version) → early 
 pushed_later early noted now new v is more = ap (λ l. early ++ l) more ∙ sym (append_assoc early noted (v ∷ [])) ∙ ap (λ l. l ++ v ∷ []) is
 
 -- a list with a later version at its end rises
-pub rises_pushed : (now all : List Version) (v : Version) (front count : ℕ) → v ≡ record { front = front; count = count } → all ≡ now ++ v ∷ [] → IsRising now → All (λ w. w.front < front) now → All (λ w. w.count ≤ count) now → IsRising all
+pub rises_pushed : (now all : List Version) (v : Version) (front count : ℕ) → v ≡ record { front = front; count = count } → all ≡ now ++ v ∷ [] →
+    IsRising now → All (λ w. w.front < front) now → All (λ w. w.count ≤ count) now → IsRising all
 rises_pushed now all v front count is longer rises later more =
     subst IsRising (sym (longer ∙ ap (λ w. now ++ w ∷ []) is)) (IsRising-push now (record { front = front; count = count }) rises later more)
 
 -- and tells its count from its front on
-pub count_at-pushed : (now all : List Version) (v : Version) (front count f : ℕ) → v ≡ record { front = front; count = count } → all ≡ now ++ v ∷ [] → count_at all f ≡ cond (reaches f (record { front = front; count = count })) count (count_at now f)
+pub count_at-pushed : (now all : List Version) (v : Version) (front count f : ℕ) → v ≡ record { front = front; count = count } → all ≡ now ++ v ∷ [] →
+    count_at all f ≡ cond (reaches f (record { front = front; count = count })) count (count_at now f)
 count_at-pushed now all v front count f is longer =
     ap (λ l. count_at l f) (longer ∙ ap (λ w. now ++ w ∷ []) is) ∙ count_at-push now (record { front = front; count = count }) f
 
@@ -214,5 +244,76 @@ drop-both (x ∷ xs) ys (suc n) (suc m) is =
     let left : suc n - suc m ≡ n - m = omega arith in
     rw left (drop-both xs ys n m (omega arith))
 
-pub dropped_both : (xs ys xs' ys' now : List Version) (n m : ℕ) → xs ++ ys ≡ now → m ≡ min n (length xs) → xs' ≡ drop m xs → ys' ≡ drop (n - m) ys → xs' ++ ys' ≡ drop n now
+pub dropped_both : (xs ys xs' ys' now : List Version) (n m : ℕ) → xs ++ ys ≡ now → m ≡ min n (length xs) → xs' ≡ drop m xs → ys' ≡ drop (n - m) ys →
+    xs' ++ ys' ≡ drop n now
 dropped_both xs ys xs' ys' now n m is counted one two = rw (one, two) (drop-both xs ys n m counted ∙ ap (drop n) is)
+
+-- the versions of a rising list between two places come before the one at the second
+pub between_before : (vs : List Version) (from k : ℕ) (d : Version) → IsRising vs → k < length vs →
+    All (λ v. IsBefore v (get_or vs k d)) (take (k - from) (drop from vs))
+between_before vs from k d rising within = λ i e inside.
+    let first : i < k - from = omega (arith, inside, length-take (k - from) (drop from vs)) in
+    let at : get_or (take (k - from) (drop from vs)) i e ≡ get_or vs (from + i) e = get_or-take (k - from) (drop from vs) i e first ∙ get_or-drop from vs i e in
+    let same : get_or vs (from + i) e ≡ get_or vs (from + i) d = get_or_default vs (from + i) e d (omega (arith, first, within)) in
+    subst (λ (v : Version). IsBefore v (get_or vs k d)) (sym (at ∙ same)) (rising (from + i) k d (omega (arith, first)) within)
+
+-- one version more of those behind a place
+pub one_more_kept : (vs : List Version) (from k : ℕ) (d v : Version) → from ≤ k → k < length vs → v ≡ get_or vs k d →
+    take (k - from) (drop from vs) ++ v ∷ [] ≡ take (k + 1 - from) (drop from vs)
+one_more_kept vs from k d v begun within is =
+    let inside : k - from < length (drop from vs) = omega (arith, length-drop from vs, begun, within) in
+    let at : get_or (drop from vs) (k - from) d ≡ v = get_or-drop from vs (k - from) d ∙ ap (λ (n : ℕ). get_or vs n d) (omega (arith, begun)) ∙ sym is in
+    let more : k + 1 - from ≡ k - from + 1 = omega (arith, begun) in
+    sym (ap (λ (n : ℕ). take n (drop from vs)) more ∙ take_more (drop from vs) (k - from) d inside
+    ∙ ap (λ (w : Version). take (k - from) (drop from vs) ++ w ∷ []) at)
+
+-- the count of the last version, and a number where there is none
+latest : ℕ → List Version → ℕ
+latest n [] = n
+latest n (v ∷ vs) = latest v.count vs
+
+latest_first : (v : Version) (vs : List Version) → last_count (v ∷ vs) ≡ latest v.count vs
+unfolding latest
+latest_first v [] = refl
+latest_first v (w ∷ vs) = latest_first w vs
+
+latest_or_none : (vs : List Version) → last_count vs ≡ latest 0 vs
+unfolding latest
+latest_or_none [] = refl
+latest_or_none (v ∷ vs) = latest_first v vs
+
+-- it is no less than what none of them is less than
+latest_least : (m n : ℕ) (vs : List Version) → m ≤ n → All (λ v. m ≤ v.count) vs → m ≤ latest n vs
+unfolding latest
+latest_least m n [] le all = le
+latest_least m n (v ∷ vs) le all = latest_least m v.count vs (All-head (λ w. m ≤ w.count) v vs all) (All-tail (λ w. m ≤ w.count) v vs all)
+
+-- versions that stand above a front don't reach it
+none_reach : (f : ℕ) (vs : List Version) → All (λ v. f < v.front) vs → filter (reaches f) vs ≡ []
+none_reach f [] above = refl
+none_reach f (v ∷ vs) above = rw (reaches-lt f v (All-head (λ w. f < w.front) v vs above)) (none_reach f vs (All-tail (λ w. f < w.front) v vs above))
+
+-- at a later front the count is no less
+latest_rises : (n f g : ℕ) (vs : List Version) → IsRising vs → f ≤ g → All (λ v. n ≤ v.count) vs →
+    latest n (filter (reaches f) vs) ≤ latest n (filter (reaches g) vs)
+unfolding latest
+latest_rises n f g [] rising later least = omega arith
+latest_rises n f g (v ∷ vs) rising later least = elim (cases_lt f v.front) [
+  | inl above ↦
+      let none : filter (reaches f) (v ∷ vs) ≡ [] = none_reach f (v ∷ vs) (All-cons (λ w. f < w.front) v vs above (λ k d inside. past k d inside above)) in
+      subst (λ (l : List Version). latest n l ≤ latest n (filter (reaches g) (v ∷ vs))) (sym none)
+      (latest_least n n (filter (reaches g) (v ∷ vs)) (omega arith) (All-filter (reaches g) (λ w. n ≤ w.count) (v ∷ vs) least))
+  | inr reached ↦
+      let first : reaches f v ≡ true = reaches-le f v (omega arith) in
+      let second : reaches g v ≡ true = reaches-le g v (omega arith) in
+      let after : All (IsBefore v) vs = λ k d inside. rising 0 (suc k) d (omega arith) (omega arith) in
+      let rest : IsRising vs = λ i j d lt inside. rising (suc i) (suc j) d (omega arith) (omega arith) in
+      rw (first, second) (latest_rises v.count f g vs rest later (λ k d inside. (after k d inside).count))
+] where
+  past : (k : ℕ) (d : Version) → k < length vs → f < v.front → f < (get_or vs k d).front
+  past k d inside above = (let before = rising 0 (suc k) d (omega arith) (omega arith) in omega (arith, before.front, above))
+
+-- so how many there are never falls with the front
+pub count_at-rises : (vs : List Version) (f g : ℕ) → IsRising vs → f ≤ g → count_at vs f ≤ count_at vs g
+count_at-rises vs f g rising later =
+    rw (latest_or_none (filter (reaches f) vs), latest_or_none (filter (reaches g) vs)) (latest_rises 0 f g vs rising later (λ k d inside. omega arith))

@@ -3,7 +3,8 @@ use Rattle.std.specs.Prelude.{ℕ, ◌<◌, ◌≤◌, List, [], ◌∷◌, Bool
 use Rattle.std.specs.List.{filter, AllPairs}
 use Rattle.go_versions.specs.Version.{Version}
 
--- the versions in the order in which they were noted, the front below which nothing is answered any more, and how many versions may be noted before memory is asked for
+-- the versions in the order in which they were noted, the front below which nothing is answered any more, and how many versions may be noted
+-- before memory is asked for
 pub record History : Type 0 where
   pub versions : List Version
   pub retired : ℕ

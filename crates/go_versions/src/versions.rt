@@ -125,6 +125,34 @@ impl Versions {
         self.retired = Snapshot::of(&front);
     }
 
+    /// The versions that fronts from this one on need, in memory of their own.
+    pub fn retired(&self, front: u64) -> Result<Versions, AllocError>
+        requires { self.now.retired ≤ front }
+        ensures retired { IfOk result (λ copy. copy.retired ≡ front) }
+        ensures kept { IfOk result (λ copy. copy.versions ≡ drop (count_by (reaches front) self.now.versions - 1) self.now.versions) }
+        ensures at { IfOk result (λ copy. (f : ℕ) → front ≤ f → count_at copy.versions f ≡ count_at self.now.versions f) }
+    {
+        let mut copy = Versions {
+            noted: Vec::new(*self.noted.allocator()),
+            early: Few::new(),
+            retired: Snapshot::of(&front),
+        };
+        let first = self.reached(front).saturating_sub(1);
+        for place in first..self.len() {
+            copy.reserve()?;
+            copy.note(self.front_of(place), self.count_of(place));
+        }
+        Ok(copy)
+    }
+
+    // How many versions there are.
+    fn len(&self) -> usize
+        ensures count { result ≡ length self.now.versions }
+        ensures rising { IsRising self.now.versions }
+    {
+        self.early.len() + self.noted.len()
+    }
+
     // How many versions stand at or below the front: these are the first ones.
     fn reached(&self, front: u64) -> usize
         ensures bound { result ≤ length self.now.versions }
@@ -136,6 +164,18 @@ impl Versions {
             reached(self.early.versions(), front)
         } else {
             self.early.len() + later
+        }
+    }
+
+    // The front of the version at this place.
+    fn front_of(&self, place: usize) -> u64
+        requires { place < length self.now.versions }
+        ensures { (d : Version) → result ≡ (slice_index_or self.now.versions place d).front }
+    {
+        if place < self.early.len() {
+            self.early.versions()[place].front()
+        } else {
+            self.noted[place - self.early.len()].front()
         }
     }
 

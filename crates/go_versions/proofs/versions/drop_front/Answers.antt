@@ -8,4 +8,5 @@ pub returns-clause-items : goal.returns-clause-items
 returns-clause-items c =
     let counted : c.len.result ≡ length c.args.noted.now.items = grind (arith, common_steps) in
     let short : c.args.count ≤ length c.args.noted.now.items = grind (arith, common_steps) in
-    turned_and_cut c.args.noted.now.items c.rotate_left.new.self.items c.truncate.new.self.items c.args.count (c.len.result - c.args.count) short c.rotate_left.ensures.items c.truncate.ensures.items (omega (arith, counted))
+    turned_and_cut c.args.noted.now.items c.rotate_left.new.self.items c.truncate.new.self.items c.args.count
+    (c.len.result - c.args.count) short c.rotate_left.ensures.items c.truncate.ensures.items (omega (arith, counted))

@@ -4,4 +4,5 @@ use Rattle.go_versions.proofs.versions.tests.more_versions_than_lie_in_place_are
 
 -- what is noted lies before the next version, and nothing is retired
 abbrev pub invariant-loop-more : goal.invariant-loop-more
-invariant-loop-more g l = All (λ v. v.front < 15 + 3 * l.more) l.versions.versions × All (λ v. v.count ≤ 7 + l.more) l.versions.versions × l.versions.retired ≡ 0
+invariant-loop-more g l = All (λ v. v.front < 15 + 3 * l.more) l.versions.versions × All (λ v. v.count ≤ 7 + l.more) l.versions.versions
+    × l.versions.retired ≡ 0
