@@ -1,5 +1,6 @@
 -- Lemmas on counts of targets, and on a list less its counted copies.
-use Rattle.std.proofs.Common.{◌≡◌, ℕ, ◌<◌, ◌≤◌, ◌≢◌, ◌+◌, ◌-◌, subst, replicate, take, drop, append_assoc, add-one, drop-cons, length-append, true, false, List, [], ◌∷◌, ◌++◌, length, get_or, refl, arith, set, zero, suc, sym, ◌∙◌, ap}
+use Rattle.std.proofs.Common.{◌≡◌, ℕ, ◌<◌, ◌≤◌, ◌≢◌, ◌+◌, ◌-◌, subst, replicate, take, drop, append_assoc, add-one, drop-cons, length-append, true, false}
+use Rattle.std.proofs.Common.{List, [], ◌∷◌, ◌++◌, length, get_or, refl, arith, set, zero, suc, sym, ◌∙◌, ap}
 use Rattle.std.proofs.lemmas.Bool.Decides.{nat_tests}
 use Rattle.std.proofs.lemmas.List.Sums.{sum_by-cons, sum_by_push, count_by-le-length}
 use Rattle.std.proofs.lemmas.List.{take_more_set, drop-set-lt, length-take}
@@ -23,7 +24,8 @@ without_counted-same f g [] same = refl
 without_counted-same f g (x ∷ xs) same =
     let here : f x ≡ g x = same x in
     let kept : without_counted f xs ≡ without_counted g xs = without_counted-same f g xs same in
-    let less : without_counted (one_less f x) xs ≡ without_counted (one_less g x) xs = without_counted-same (one_less f x) (one_less g x) xs (λ y. rw (same y) refl) in
+    let less : without_counted (one_less f x) xs ≡ without_counted (one_less g x) xs =
+    without_counted-same (one_less f x) (one_less g x) xs (λ y. rw (same y) refl) in
     grind (arith, nat_tests)
 
 -- one more and one less of two vertices can change places
@@ -43,10 +45,13 @@ pub without_counted-one_more : (f : ℕ → ℕ) (d : ℕ) (xs : List ℕ) → w
 without_counted-one_more f d [] = refl
 without_counted-one_more f d (x ∷ xs) =
     let kept : without_counted (one_more f d) xs ≡ without_first d (without_counted f xs) = without_counted-one_more f d xs in
-    let less : without_counted (one_more (one_less f x) d) xs ≡ without_first d (without_counted (one_less f x) xs) = without_counted-one_more (one_less f x) d xs in
-    let other : x ≢ d → without_counted (one_less (one_more f d) x) xs ≡ without_counted (one_more (one_less f x) d) xs = λ ne. without_counted-same _ _ xs (λ y. one_less-one_more f d x y ne) in
+    let less : without_counted (one_more (one_less f x) d) xs ≡ without_first d (without_counted (one_less f x) xs) =
+    without_counted-one_more (one_less f x) d xs in
+    let other : x ≢ d → without_counted (one_less (one_more f d) x) xs ≡ without_counted (one_more (one_less f x) d) xs =
+    λ ne. without_counted-same _ _ xs (λ y. one_less-one_more f d x y ne) in
     let same : without_counted (one_less (one_more f d) d) xs ≡ without_counted f xs = without_counted-same _ _ xs (λ y. one_less-one_more_same f d y) in
-    let back : 0 < f d → without_counted (one_more (one_less f d) d) xs ≡ without_counted f xs = λ some. without_counted-same _ _ xs (λ y. one_more-one_less_same f d y some) in
+    let back : 0 < f d → without_counted (one_more (one_less f d) d) xs ≡ without_counted f xs =
+    λ some. without_counted-same _ _ xs (λ y. one_more-one_less_same f d y some) in
     grind (arith, nat_tests)
 
 -- a copy that comes last stays, where no more are counted than come before it
@@ -55,7 +60,8 @@ without_counted-push f d [] few = grind (arith, nat_tests)
 without_counted-push f d (x ∷ xs) few =
     let count : copies d (x ∷ xs) ≡ (if x == d then 1 else 0) + copies d xs = copies-cons d x xs in
     let kept : f d ≤ copies d xs → without_counted f (xs ++ d ∷ []) ≡ without_counted f xs ++ d ∷ [] = λ h. without_counted-push f d xs h in
-    let less : one_less f x d ≤ copies d xs → without_counted (one_less f x) (xs ++ d ∷ []) ≡ without_counted (one_less f x) xs ++ d ∷ [] = λ h. without_counted-push (one_less f x) d xs h in
+    let less : one_less f x d ≤ copies d xs → without_counted (one_less f x) (xs ++ d ∷ []) ≡ without_counted (one_less f x) xs ++ d ∷ [] =
+    λ h. without_counted-push (one_less f x) d xs h in
     grind (arith, nat_tests)
 
 -- a tally goes on with a copy that comes last
@@ -150,23 +156,27 @@ count_at-absent (t ∷ targets) (c ∷ counts) d absent =
     grind (arith, nat_tests)
 
 -- where d is a target, its count stands at its place
-pub count_at-place : (targets counts : List ℕ) (d place : ℕ) → StandsAt targets d place → length counts ≡ length targets → count_at targets counts d ≡ get_or counts place 0
+pub count_at-place : (targets counts : List ℕ) (d place : ℕ) → StandsAt targets d place → length counts ≡ length targets →
+    count_at targets counts d ≡ get_or counts place 0
 count_at-place [] counts d place stands paired = absurd (let w = stands.within in omega arith)
 count_at-place (t ∷ targets) [] d place stands paired = absurd (omega arith)
 count_at-place (t ∷ targets) (c ∷ counts) d zero stands paired = let here : t ≡ d = stands.here in grind (arith, nat_tests)
 count_at-place (t ∷ targets) (c ∷ counts) d (suc place) stands paired =
     let below : t < d = stands.first 0 (omega arith) in
-    let rest : count_at targets counts d ≡ get_or counts place 0 = count_at-place targets counts d place (StandsAt-tail t targets d place stands) (omega arith) in
+    let rest : count_at targets counts d ≡ get_or counts place 0 = count_at-place targets counts d place (StandsAt-tail t targets d place stands)
+    (omega arith) in
     grind (arith, nat_tests)
 
 -- a count that is written at the place of d is that of d, and the others stay
-pub count_at-set : (targets counts : List ℕ) (d place v x : ℕ) → StandsAt targets d place → length counts ≡ length targets → count_at targets (set counts place v) x ≡ (if x == d then v else count_at targets counts x)
+pub count_at-set : (targets counts : List ℕ) (d place v x : ℕ) → StandsAt targets d place → length counts ≡ length targets →
+    count_at targets (set counts place v) x ≡ (if x == d then v else count_at targets counts x)
 count_at-set [] counts d place v x stands paired = absurd (let w = stands.within in omega arith)
 count_at-set (t ∷ targets) [] d place v x stands paired = absurd (omega arith)
 count_at-set (t ∷ targets) (c ∷ counts) d zero v x stands paired = let here : t ≡ d = stands.here in grind (arith, nat_tests)
 count_at-set (t ∷ targets) (c ∷ counts) d (suc place) v x stands paired =
     let below : t < d = stands.first 0 (omega arith) in
-    let rest : count_at targets (set counts place v) x ≡ (if x == d then v else count_at targets counts x) = count_at-set targets counts d place v x (StandsAt-tail t targets d place stands) (omega arith) in
+    let rest : count_at targets (set counts place v) x ≡ (if x == d then v else count_at targets counts x) =
+    count_at-set targets counts d place v x (StandsAt-tail t targets d place stands) (omega arith) in
     grind (arith, nat_tests)
 
 -- fresh counts are 0
@@ -184,7 +194,8 @@ IsTally-none targets n m = record {
 }
 
 -- one less, written at the place of d, is one less of d
-pub count_down_at : (targets counts : List ℕ) (d place x : ℕ) → StandsAt targets d place → length counts ≡ length targets → count_at targets (set counts place (get_or counts place 0 - 1)) x ≡ one_less (count_at targets counts) d x
+pub count_down_at : (targets counts : List ℕ) (d place x : ℕ) → StandsAt targets d place → length counts ≡ length targets →
+    count_at targets (set counts place (get_or counts place 0 - 1)) x ≡ one_less (count_at targets counts) d x
 count_down_at targets counts d place x stands paired =
     let at = count_at-place targets counts d place stands paired in
     let written = count_at-set targets counts d place (get_or counts place 0 - 1) x stands paired in
@@ -215,10 +226,12 @@ length-additions (word ∷ words) =
     rw (cut, length-append) (omega arith)
 
 -- so no count passes the number of all that was there and the words
-pub IsTally-room : (targets present removed base words list : List ℕ) (x i : ℕ) → IsTally targets present removed (base ++ additions (take i words)) list → count_at targets present x + count_at targets removed x ≤ length base + i
+pub IsTally-room : (targets present removed base words list : List ℕ) (x i : ℕ) → IsTally targets present removed (base ++ additions (take i words)) list →
+    count_at targets present x + count_at targets removed x ≤ length base + i
 IsTally-room targets present removed base words list x i tally =
     let bound = tally.bound x in
-    let all : copies x (base ++ additions (take i words)) ≤ length (base ++ additions (take i words)) = count_by-le-length (λ v. v == x) (base ++ additions (take i words)) in
+    let all : copies x (base ++ additions (take i words)) ≤ length (base ++ additions (take i words)) =
+    count_by-le-length (λ v. v == x) (base ++ additions (take i words)) in
     let sum : length (base ++ additions (take i words)) ≡ length base + length (additions (take i words)) = length-append base (additions (take i words)) in
     let few : length (additions (take i words)) ≤ length (take i words) = length-additions (take i words) in
     let cut : length (take i words) ≤ i = simp length-take (omega arith) in
@@ -247,9 +260,12 @@ kept_on before after list left kept i behind within none less so_far =
     let here : take (kept + 1) (set list kept d) ≡ take kept list ++ d ∷ [] = take_more_set list kept d (omega arith) in
     let rest : drop (i + 1) (set list kept d) ≡ drop (i + 1) list = drop-set-lt (i + 1) list kept d (omega arith) in
     let next : drop i list ≡ d ∷ drop (i + 1) list = rw add-one (drop-cons list i 0 within) in
-    let stays : without_counted before (drop i list) ≡ d ∷ without_counted before (drop (i + 1) list) = ap (without_counted before) next ∙ without_counted-none before d (drop (i + 1) list) none in
-    let as_before : without_counted after (drop (i + 1) list) ≡ without_counted before (drop (i + 1) list) = without_counted-same after before (drop (i + 1) list) same in
-    rw (here, rest, as_before) (append_assoc (take kept list) (d ∷ []) (without_counted before (drop (i + 1) list)) ∙ ap (λ l. take kept list ++ l) (sym stays) ∙ so_far)
+    let stays : without_counted before (drop i list) ≡ d ∷ without_counted before (drop (i + 1) list) = ap (without_counted before) next
+    ∙ without_counted-none before d (drop (i + 1) list) none in
+    let as_before : without_counted after (drop (i + 1) list) ≡ without_counted before (drop (i + 1) list) =
+    without_counted-same after before (drop (i + 1) list) same in
+    rw (here, rest, as_before) (append_assoc (take kept list) (d ∷ []) (without_counted before (drop (i + 1) list))
+    ∙ ap (λ l. take kept list ++ l) (sym stays) ∙ so_far)
 
 -- and one that leaves a copy out
 pub left_out : (before after : ℕ → ℕ) (list left : List ℕ) (kept i : ℕ) → i < length list
@@ -260,6 +276,8 @@ pub left_out : (before after : ℕ → ℕ) (list left : List ℕ) (kept i : ℕ
 left_out before after list left kept i within some less so_far =
     let d = get_or list i 0 in
     let next : drop i list ≡ d ∷ drop (i + 1) list = rw add-one (drop-cons list i 0 within) in
-    let goes : without_counted before (drop i list) ≡ without_counted (one_less before d) (drop (i + 1) list) = ap (without_counted before) next ∙ without_counted-some before d (drop (i + 1) list) some in
-    let now : without_counted after (drop (i + 1) list) ≡ without_counted (one_less before d) (drop (i + 1) list) = without_counted-same after (one_less before d) (drop (i + 1) list) less in
+    let goes : without_counted before (drop i list) ≡ without_counted (one_less before d) (drop (i + 1) list) = ap (without_counted before) next
+    ∙ without_counted-some before d (drop (i + 1) list) some in
+    let now : without_counted after (drop (i + 1) list) ≡ without_counted (one_less before d) (drop (i + 1) list) =
+    without_counted-same after (one_less before d) (drop (i + 1) list) less in
     ap (λ l. take kept list ++ l) (now ∙ sym goes) ∙ so_far

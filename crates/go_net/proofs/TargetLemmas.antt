@@ -30,7 +30,8 @@ get_or_any : (xs : List ℕ) (k d : ℕ) → k < length xs → get_or xs k d ≡
 get_or_any xs k d within at = let same : get_or xs k d ≡ get_or xs k 0 = get_or_default_zero xs k d within in grind (arith, same, at)
 
 -- what a search in a rising list finds is the place of a target, and what it doesn't find is none
-pub place-searched : (targets : List ℕ) (d : ℕ) (r : Result ℕ ℕ) → IsStrictlyIncreasing targets → IsBinarySearchResult (λ y. nat_cmp y d) targets r → MatchOption (result_ok r) (Contains targets d → ⊥) (λ place. StandsAt targets d place)
+pub place-searched : (targets : List ℕ) (d : ℕ) (r : Result ℕ ℕ) → IsStrictlyIncreasing targets → IsBinarySearchResult (λ y. nat_cmp y d) targets r →
+    MatchOption (result_ok r) (Contains targets d → ⊥) (λ place. StandsAt targets d place)
 place-searched targets d (Ok place) increasing search_result =
     let found = searched targets d (Ok place) search_result (rising-le targets increasing) in
     record {
@@ -52,7 +53,8 @@ pub HasTargetsOf-sorted : (words raw sorted final : List ℕ)
     → ((k : ℕ) → k < length words → (decode (get_or words k 0)).del ≡ true → Contains raw (decode (get_or words k 0)).dst)
     → IsPermutation raw sorted → final ≡ dedup eqb sorted → HasTargetsOf final words
 HasTargetsOf-sorted words raw sorted final among permutation is = λ k d within.
-    rw (get_or_default_zero words k d within, is) (λ deletes. Contains-dedup_nat sorted _ (Contains-permutation raw sorted _ permutation (among k within deletes)))
+    rw (get_or_default_zero words k d within, is) (λ deletes. Contains-dedup_nat sorted _
+    (Contains-permutation raw sorted _ permutation (among k within deletes)))
 
 -- the numbers from one on, with one number more
 range-push : (a n : ℕ) → range_with_len a n ++ (a + n) ∷ [] ≡ range_with_len a (suc n)
@@ -76,7 +78,8 @@ rising-below n = λ k within.
     omega (arith, here, next)
 
 -- the numbers below an end are targets for words whose deletions all have destinations below it
-pub HasTargetsOf-below : (words : List ℕ) (end : ℕ) → All (λ word. (decode word).del ≡ true → (decode word).dst < end) words → HasTargetsOf (range_with_len 0 end) words
+pub HasTargetsOf-below : (words : List ℕ) (end : ℕ) → All (λ word. (decode word).del ≡ true → (decode word).dst < end) words →
+    HasTargetsOf (range_with_len 0 end) words
 HasTargetsOf-below words end below = λ k d within deletes.
     let target = (decode (get_or words k d)).dst in
     let short : target < end = below k d within deletes in

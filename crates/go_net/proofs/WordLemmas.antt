@@ -1,5 +1,6 @@
 -- Lemmas on the words of a vertex, taken in one by one.
-use Rattle.std.proofs.Common.{◌≡◌, ℕ, ◌<◌, ◌+◌, true, false, List, [], ◌∷◌, ◌++◌, length, get_or, refl, arith, take, map, fold, ap, sym, ◌∙◌, append_assoc, append-nil, subst}
+use Rattle.std.proofs.Common.{◌≡◌, ℕ, ◌<◌, ◌+◌, true, false, List, [], ◌∷◌, ◌++◌, length, get_or, refl, arith, take, map, fold, ap, sym, ◌∙◌, append_assoc}
+use Rattle.std.proofs.Common.{append-nil, subst}
 use Rattle.std.proofs.lemmas.List.{take_more}
 use Rattle.std.proofs.lemmas.Bool.Decides.{nat_tests}
 use Rattle.std.proofs.lemmas.Grind.{common_steps, flat_map-append}
@@ -26,7 +27,8 @@ after_word-of_vertex : (s : ℕ) (before : List ℕ) (word : ℕ) → leaves s (
 after_word-of_vertex s before word own = grind (arith, nat_tests)
 
 -- for words of s the neighbours are the fold of s
-pub net_of-of_vertex : (s : ℕ) (base words : List ℕ) → All (λ w. leaves s (decode w) ≡ true) words → net_of base words ≡ fold (after_entry s) base (map decode words)
+pub net_of-of_vertex : (s : ℕ) (base words : List ℕ) → All (λ w. leaves s (decode w) ≡ true) words →
+    net_of base words ≡ fold (after_entry s) base (map decode words)
 net_of-of_vertex s base [] own = refl
 net_of-of_vertex s base (word ∷ words) own =
     let first : leaves s (decode word) ≡ true = All-head (λ w. leaves s (decode w) ≡ true) word words own in
@@ -53,9 +55,11 @@ IsTally-added targets present removed base words i e within is adds tally =
     let same : (decode word).dst ≡ e.dst = ap (λ (x : Edge). x.dst) (sym is) in
     let one : addition_in word ≡ e.dst ∷ [] = grind (arith, nat_tests) in
     let list : net_of base (take (i + 1) words) ≡ net_of base (take i words) ++ e.dst ∷ [] =
-    ap (net_of base) more ∙ net_of-push base (take i words) word ∙ after_word-added (net_of base (take i words)) word none ∙ ap (λ d. net_of base (take i words) ++ d ∷ []) same in
+    ap (net_of base) more ∙ net_of-push base (take i words) word ∙ after_word-added (net_of base (take i words)) word none
+    ∙ ap (λ d. net_of base (take i words) ++ d ∷ []) same in
     let added : base ++ additions (take (i + 1) words) ≡ (base ++ additions (take i words)) ++ e.dst ∷ [] =
-    ap (λ l. base ++ additions l) more ∙ ap (λ l. base ++ l) (additions-push (take i words) word ∙ ap (λ l. additions (take i words) ++ l) one) ∙ sym (append_assoc base (additions (take i words)) (e.dst ∷ [])) in
+    ap (λ l. base ++ additions l) more ∙ ap (λ l. base ++ l) (additions-push (take i words) word ∙ ap (λ l. additions (take i words) ++ l) one)
+    ∙ sym (append_assoc base (additions (take i words)) (e.dst ∷ [])) in
     rw (list, added) tally
 
 -- and with one that deletes
@@ -69,7 +73,8 @@ IsTally-deleted targets present removed base words i e within is deletes tally =
     let same : (decode word).dst ≡ e.dst = ap (λ (x : Edge). x.dst) (sym is) in
     let none : addition_in word ≡ [] = grind (arith, nat_tests) in
     let list : net_of base (take (i + 1) words) ≡ without_first e.dst (net_of base (take i words)) =
-    ap (net_of base) more ∙ net_of-push base (take i words) word ∙ after_word-deleted (net_of base (take i words)) word some ∙ ap (λ d. without_first d (net_of base (take i words))) same in
+    ap (net_of base) more ∙ net_of-push base (take i words) word ∙ after_word-deleted (net_of base (take i words)) word some
+    ∙ ap (λ d. without_first d (net_of base (take i words))) same in
     let added : additions (take (i + 1) words) ≡ additions (take i words) =
     ap additions more ∙ additions-push (take i words) word ∙ ap (λ l. additions (take i words) ++ l) none ∙ append-nil (additions (take i words)) in
     rw (list, added) tally

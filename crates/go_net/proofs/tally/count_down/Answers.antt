@@ -28,4 +28,5 @@ returns-in_default-2-clause-any c =
     grind (arith, nat_tests, none)
 
 pub returns-in_default-2-clause-after : goal.returns-in_default-2-clause-after
-returns-in_default-2-clause-after c = λ x. count_down_none c.args.targets.now c.args.counts.now c.args.d x (count_at-absent c.args.targets.now c.args.counts.now c.args.d c.in_default.ensures)
+returns-in_default-2-clause-after c = λ x. count_down_none c.args.targets.now c.args.counts.now c.args.d x
+    (count_at-absent c.args.targets.now c.args.counts.now c.args.d c.in_default.ensures)

@@ -8,10 +8,13 @@ use Rattle.go_net.proofs.targets.deleted.Goals as goal
 
 pub returns-clause-all : goal.returns-clause-all
 returns-clause-all c =
-    let is : c.dedup.new.self.items ≡ dedup eqb c.sort_unstable.new.self.items = dedup_is eqb c.sort_unstable.new.self.items c.dedup.new.self.items c.dedup.ensures.filtered in
-    HasTargetsOf-sorted c.args.words.now c.loop-word.targets.items c.sort_unstable.new.self.items c.dedup.new.self.items (λ k within. c.loop-word.invariant k (omega arith)) c.sort_unstable.ensures.permutation is
+    let is : c.dedup.new.self.items ≡ dedup eqb c.sort_unstable.new.self.items =
+    dedup_is eqb c.sort_unstable.new.self.items c.dedup.new.self.items c.dedup.ensures.filtered in
+    HasTargetsOf-sorted c.args.words.now c.loop-word.targets.items c.sort_unstable.new.self.items c.dedup.new.self.items
+    (λ k within. c.loop-word.invariant k (omega arith)) c.sort_unstable.ensures.permutation is
 
 pub returns-clause-rising : goal.returns-clause-rising
 returns-clause-rising c =
-    let is : c.dedup.new.self.items ≡ dedup eqb c.sort_unstable.new.self.items = dedup_is eqb c.sort_unstable.new.self.items c.dedup.new.self.items c.dedup.ensures.filtered in
+    let is : c.dedup.new.self.items ≡ dedup eqb c.sort_unstable.new.self.items =
+    dedup_is eqb c.sort_unstable.new.self.items c.dedup.new.self.items c.dedup.ensures.filtered in
     rw is (IsStrictlyIncreasing-dedup c.sort_unstable.new.self.items c.sort_unstable.ensures.sorted)
