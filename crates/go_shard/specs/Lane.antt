@@ -1,40 +1,66 @@
 -- What a shard holds of one vertex.
-use Rattle.std.specs.Prelude.{◌≡◌, ◌==◌, ℕ, ◌+◌, ◌-◌, ◌<◌, ◌≤◌, ◌/◌, if◌then◌else◌, Bool, List, [], ◌∷◌, ◌++◌, length, All, slice_index_or}
+use Rattle.std.specs.Prelude.{◌≡◌, ◌==◌, ℕ, ◌+◌, ◌-◌, ◌<◌, ◌≤◌, ◌/◌, if◌then◌else◌, Bool, List, [], ◌∷◌, ◌++◌, length, take, drop, All, slice_index_or}
 use Rattle.go_word.specs.declared.edge.Edge.{Edge}
+use Rattle.go_net.specs.Net.{net_of}
 use Rattle.go_versions.specs.Version.{Version}
+use Rattle.go_versions.specs.History.{count_at}
 
--- the words of a vertex's entries, how many there were from which front on, and how many more are promised to be taken; none are between calls
+-- the neighbours of a vertex at the cut, after how many entries, how many more neighbours there is room for, the words of its later entries, how
+-- many entries there were in all from which front on, the front below which that isn't told any more, and how many more words are promised to be
+-- taken; none are between calls
 pub record Lane : Type 0 where
+  pub base : List ℕ
+  pub floor : ℕ
+  pub spare : ℕ
   pub words : List ℕ
   pub versions : List Version
+  pub retired : ℕ
   pub promised : ℕ
 
 -- a vertex without entries
 abbrev pub empty_lane : Lane
-empty_lane = record { words = []; versions = []; promised = 0 }
+empty_lane = record { base = []; floor = 0; spare = 0; words = []; versions = []; retired = 0; promised = 0 }
+
+-- how many entries a lane has in all
+abbrev pub known : Lane → ℕ
+known lane = lane.floor + length lane.words
+
+-- the neighbours of a vertex after so many of its entries, those before the cut among them
+abbrev pub list_at : Lane → ℕ → List ℕ
+list_at lane raw = net_of lane.base (take (raw - lane.floor) lane.words)
 
 -- a lane with so many promised
 abbrev pub promising : Lane → ℕ → Lane
-promising lane n = record { words = lane.words; versions = lane.versions; promised = n }
+promising lane n = record lane { promised = n }
 
 -- a lane after one word that was promised; the last one promised notes the count from the front on
 abbrev pub accepting : ℕ → Lane → ℕ → Lane
-accepting front lane word = record {
+accepting front lane word = record lane {
   words = lane.words ++ word ∷ [];
-  versions = if lane.promised == 1 then lane.versions ++ record { front = front; count = length lane.words + 1 } ∷ [] else lane.versions;
+  versions = if lane.promised == 1 then lane.versions ++ record { front = front; count = known lane + 1 } ∷ [] else lane.versions;
   promised = lane.promised - 1;
 }
 
--- a front is ahead of all that a lane has noted, and what it noted is no more than it holds
+-- a front is ahead of all that a lane has noted, and what it noted is no more than it has
 pub record IsAhead (front : ℕ) (lane : Lane) : Type 0 where
   pub later : All (λ v. v.front < front) lane.versions
-  pub no_less : All (λ v. v.count ≤ length lane.words) lane.versions
+  pub no_less : All (λ v. v.count ≤ known lane) lane.versions
 
 -- a lane can keep what it promised: its chain has room for the words, and its versions for one more
-pub record IsReady (spare room retired promised : ℕ) : Type 0 where
+pub record IsReady (spare room promised : ℕ) : Type 0 where
   pub words : promised ≤ spare
   pub versions : 0 < promised → 1 ≤ room
-  pub unretired : retired ≡ 0
+
+-- a lane compacted at a front: it has the neighbours there in place of the entries, and tells the same from that front on
+pub record IsCompacted (front : ℕ) (old new : Lane) : Type 0 where
+  pub base : new.base ≡ list_at old new.floor
+  pub floor : new.floor ≡ count_at old.versions front
+  pub words : new.words ≡ drop (new.floor - old.floor) old.words
+  pub told : (f : ℕ) → front ≤ f → count_at new.versions f ≡ count_at old.versions f
+  pub given_up : ℕ
+  pub versions : new.versions ≡ drop given_up old.versions
+  pub retired : new.retired ≤ front
+  pub settled : new.promised ≡ 0
 
 -- the lane at a place, and an empty one past the end
 abbrev pub lane_at : List Lane → ℕ → Lane

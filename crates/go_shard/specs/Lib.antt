@@ -1,5 +1,11 @@
 -- The definitions that the contracts of this crate cite.
 pub mod Lane
 pub mod Groups
+pub mod Listing
+pub mod Compacting
+pub mod Fronts
 pub mod ShardState
 pub mod Stands
+pub mod Split
+pub mod Parts
+pub mod Taking

@@ -1,62 +1,73 @@
 // A batch of entries: a place for each is promised first, and then all are taken.
-ghost use Rattle.std.specs.Prelude.{◌≡◌, ◌==◌, if◌then◌else◌, ℕ, ◌+◌, ◌/◌, ◌<◌, ◌^◌, length, All, count_by, filter, fold, map, OnOk, OnErr};
+ghost use Rattle.std.specs.Prelude.{◌≡◌, ◌==◌, if◌then◌else◌, ℕ, ◌+◌, ◌/◌, ◌<◌, ◌^◌, length, All, count_by, filter, fold, map, take, OnOk, OnErr};
 ghost use Rattle.go_word.specs.Word.{IsStorable, plain_word};
-ghost use Rattle.go_shard.specs.Lane.{lane_at, is_at, promising, accepting, IsAhead, IsRestored};
+ghost use Rattle.go_shard.specs.Lane.{lane_at, is_at, promising, accepting, known, IsAhead, IsRestored};
+ghost use Rattle.go_shard.specs.Listing.{ListsBare};
 
 use crate::by_groups::take_by_groups;
-use crate::places::Places;
+use crate::listing::promise_listed;
 use crate::slot::Slot;
+use crate::striping::Striping;
 use go_word::{Edge, plain};
 use std::alloc::{AllocError, Global};
 
 // A batch with fewer entries than one for so many vertices is not grouped, since that looks at each vertex.
 const FEW: usize = 4;
 
-/// Takes the entries of the batch, each to the end of its vertex. Where memory is refused, none is taken.
+/// Takes the entries of the batch, each to the end of its vertex, and lists the places of vertices that had no words.
+/// Where memory is refused, none is taken.
 pub(crate) fn take_batch(
     alloc: Global,
-    shards: Places,
+    shards: Striping,
     slots: &mut [Slot],
+    listed: &mut Vec<u32>,
     batch: &[Edge],
     front: u64,
 ) -> Result<(), AllocError>
+    requires places { length slots.old < 2 ^ 32 }
     requires inside { All (λ e. e.src / shards < length slots.old) batch.now }
     requires storable { All IsStorable batch.now }
     requires few { length batch.now < 2 ^ 32 }
     requires settled { All (λ lane. lane.promised ≡ 0) slots.old }
     requires ahead { All (IsAhead front) slots.old }
-    requires small { All (λ lane. length lane.words + length batch.now < 2 ^ 32) slots.old }
+    requires small { All (λ lane. known lane + length batch.now < 2 ^ 32) slots.old }
     ensures ok { OnOk result ((place : ℕ) → lane_at slots.new place ≡ fold (accepting front)
         (promising (lane_at slots.old place) (count_by (is_at shards place) batch.now))
         (map plain_word (filter (is_at shards place) batch.now))) }
+    ensures listed { OnOk result (ListsBare slots.old (λ place. count_by (is_at shards place) batch.now) listed.old.items listed.new.items) }
     ensures err { OnErr result (slots.new ≡ slots.old) }
+    ensures unlisted { OnErr result (listed.new.items ≡ listed.old.items) }
 {
     if batch.len() < slots.len() / FEW {
-        take_by_entries(alloc, shards, slots, batch, front)
+        take_by_entries(alloc, shards, slots, listed, batch, front)
     } else {
-        take_by_groups(alloc, shards, slots, batch, front)
+        take_by_groups(alloc, shards, slots, listed, batch, front)
     }
 }
 
 // Takes one entry after another.
 fn take_by_entries(
     alloc: Global,
-    shards: Places,
+    shards: Striping,
     slots: &mut [Slot],
+    listed: &mut Vec<u32>,
     batch: &[Edge],
     front: u64,
 ) -> Result<(), AllocError>
+    requires places { length slots.old < 2 ^ 32 }
     requires inside { All (λ e. e.src / shards < length slots.old) batch.now }
     requires storable { All IsStorable batch.now }
     requires settled { All (λ lane. lane.promised ≡ 0) slots.old }
     requires ahead { All (IsAhead front) slots.old }
-    requires small { All (λ lane. length lane.words + length batch.now < 2 ^ 32) slots.old }
+    requires small { All (λ lane. known lane + length batch.now < 2 ^ 32) slots.old }
     ensures ok { OnOk result ((place : ℕ) → lane_at slots.new place ≡ fold (accepting front)
         (promising (lane_at slots.old place) (count_by (is_at shards place) batch.now))
         (map plain_word (filter (is_at shards place) batch.now))) }
+    ensures listed { OnOk result (ListsBare slots.old (λ place. count_by (is_at shards place) batch.now) listed.old.items listed.new.items) }
     ensures err { OnErr result (slots.new ≡ slots.old) }
+    ensures unlisted { OnErr result (listed.new.items ≡ listed.old.items) }
 {
-    promise_all(alloc, shards, slots, batch)?;
+    promise_all(alloc, shards, slots, listed, batch)?;
     accept_all(shards, slots, batch, front);
     Ok(())
 }
@@ -64,18 +75,24 @@ fn take_by_entries(
 // Promises each entry of the batch a place at its vertex. Where memory is refused, nothing is promised.
 fn promise_all(
     alloc: Global,
-    shards: Places,
+    shards: Striping,
     slots: &mut [Slot],
+    listed: &mut Vec<u32>,
     batch: &[Edge],
 ) -> Result<(), AllocError>
+    requires places { length slots.old < 2 ^ 32 }
     requires inside { All (λ e. e.src / shards < length slots.old) batch.now }
     requires settled { All (λ lane. lane.promised ≡ 0) slots.old }
     ensures ok { OnOk result ((place : ℕ) → lane_at slots.new place
         ≡ promising (lane_at slots.old place) (count_by (is_at shards place) batch.now)) }
+    ensures listed { OnOk result (ListsBare slots.old (λ place. count_by (is_at shards place) batch.now) listed.old.items listed.new.items) }
     ensures err { OnErr result (slots.new ≡ slots.old) }
+    ensures unlisted { OnErr result (listed.new.items ≡ listed.old.items) }
 {
-    let promised = promise_some(alloc, shards, slots, batch);
+    let before = listed.len();
+    let promised = promise_some(alloc, shards, slots, listed, batch);
     if promised.is_err() {
+        listed.truncate(before);
         withdraw_all(shards, slots, batch);
     }
     promised
@@ -84,25 +101,30 @@ fn promise_all(
 // Promises a place to one entry after another, up to where memory is refused.
 fn promise_some(
     alloc: Global,
-    shards: Places,
+    shards: Striping,
     slots: &mut [Slot],
+    listed: &mut Vec<u32>,
     batch: &[Edge],
 ) -> Result<(), AllocError>
+    requires places { length slots.old < 2 ^ 32 }
     requires inside { All (λ e. e.src / shards < length slots.old) batch.now }
     requires settled { All (λ lane. lane.promised ≡ 0) slots.old }
     ensures ok { OnOk result ((place : ℕ) → lane_at slots.new place
         ≡ promising (lane_at slots.old place) (count_by (is_at shards place) batch.now)) }
     ensures kept { (place : ℕ) → IsRestored
         (count_by (is_at shards place) batch.now) (lane_at slots.old place) (lane_at slots.new place) }
+    ensures listed { OnOk result (ListsBare slots.old (λ place. count_by (is_at shards place) batch.now) listed.old.items listed.new.items) }
+    ensures before { take (length listed.old.items) listed.new.items ≡ listed.old.items }
 {
     for edge in batch {
-        slots[shards.place_of(edge.src)].promise(alloc, 1)?;
+        let place = shards.place_of(edge.src);
+        promise_listed(alloc, &mut slots[place], listed, place as u32, 1)?;
     }
     Ok(())
 }
 
 /// Takes back what was promised to the vertices that the batch names.
-pub(crate) fn withdraw_all(shards: Places, slots: &mut [Slot], batch: &[Edge])
+pub(crate) fn withdraw_all(shards: Striping, slots: &mut [Slot], batch: &[Edge])
     requires inside { All (λ e. e.src / shards < length slots.old) batch.now }
     ensures { (place : ℕ) → lane_at slots.new place
         ≡ (if count_by (is_at shards place) batch.now == 0
@@ -114,12 +136,12 @@ pub(crate) fn withdraw_all(shards: Places, slots: &mut [Slot], batch: &[Edge])
 }
 
 // Takes the entries of the batch, each of which was promised a place.
-fn accept_all(shards: Places, slots: &mut [Slot], batch: &[Edge], front: u64)
+fn accept_all(shards: Striping, slots: &mut [Slot], batch: &[Edge], front: u64)
     requires inside { All (λ e. e.src / shards < length slots.old) batch.now }
     requires storable { All IsStorable batch.now }
     requires promised { (place : ℕ) → (lane_at slots.old place).promised ≡ count_by (is_at shards place) batch.now }
     requires ahead { All (IsAhead front) slots.old }
-    requires small { All (λ lane. length lane.words + length batch.now < 2 ^ 32) slots.old }
+    requires small { All (λ lane. known lane + length batch.now < 2 ^ 32) slots.old }
     ensures { (place : ℕ) → lane_at slots.new place
         ≡ fold (accepting front) (lane_at slots.old place) (map plain_word (filter (is_at shards place) batch.now)) }
 {

@@ -1,38 +1,46 @@
 // A batch that names many vertices, taken vertex by vertex.
-ghost use Rattle.std.specs.Prelude.{◌≡◌, ℕ, ◌+◌, ◌/◌, ◌<◌, ◌≤◌, ◌^◌, length, All, count_by, filter, fold, map, OnOk, OnErr};
+ghost use Rattle.std.specs.Prelude.{◌≡◌, ℕ, ◌+◌, ◌/◌, ◌<◌, ◌≤◌, ◌^◌, length, All, count_by, filter, fold, map, take, OnOk, OnErr};
 ghost use Rattle.go_word.specs.Word.{IsStorable, plain_word};
-ghost use Rattle.go_shard.specs.Lane.{lane_at, is_at, promising, accepting, IsAhead, IsRestored};
+ghost use Rattle.go_shard.specs.Lane.{lane_at, is_at, promising, accepting, known, IsAhead, IsRestored};
+ghost use Rattle.go_shard.specs.Listing.{ListsBare};
 ghost use Rattle.go_shard.specs.Groups.{size_at, group_at, IsCut};
 
 use crate::batch::withdraw_all;
 use crate::groups::grouped;
-use crate::places::Places;
+use crate::listing::promise_listed;
 use crate::slot::Slot;
+use crate::striping::Striping;
 use go_word::Edge;
 use std::alloc::{AllocError, Global};
 
 /// Takes the entries of the batch, each to the end of its vertex. Where memory is refused, none is taken.
 pub(crate) fn take_by_groups(
     alloc: Global,
-    shards: Places,
+    shards: Striping,
     slots: &mut [Slot],
+    listed: &mut Vec<u32>,
     batch: &[Edge],
     front: u64,
 ) -> Result<(), AllocError>
+    requires places { length slots.old < 2 ^ 32 }
     requires inside { All (λ e. e.src / shards < length slots.old) batch.now }
     requires storable { All IsStorable batch.now }
     requires few { length batch.now < 2 ^ 32 }
     requires settled { All (λ lane. lane.promised ≡ 0) slots.old }
     requires ahead { All (IsAhead front) slots.old }
-    requires small { All (λ lane. length lane.words + length batch.now < 2 ^ 32) slots.old }
+    requires small { All (λ lane. known lane + length batch.now < 2 ^ 32) slots.old }
     ensures ok { OnOk result ((place : ℕ) → lane_at slots.new place ≡ fold (accepting front)
         (promising (lane_at slots.old place) (count_by (is_at shards place) batch.now))
         (map plain_word (filter (is_at shards place) batch.now))) }
+    ensures listed { OnOk result (ListsBare slots.old (λ place. count_by (is_at shards place) batch.now) listed.old.items listed.new.items) }
     ensures err { OnErr result (slots.new ≡ slots.old) }
+    ensures unlisted { OnErr result (listed.new.items ≡ listed.old.items) }
 {
     let groups = grouped(alloc, shards, slots.len(), batch)?;
-    let promised = promise_groups(alloc, slots, &groups.ends);
+    let before = listed.len();
+    let promised = promise_groups(alloc, slots, listed, &groups.ends);
     if promised.is_err() {
+        listed.truncate(before);
         withdraw_all(shards, slots, batch);
         return promised;
     }
@@ -41,7 +49,13 @@ pub(crate) fn take_by_groups(
 }
 
 // Promises each vertex as many places as its group has words, up to where memory is refused.
-fn promise_groups(alloc: Global, slots: &mut [Slot], ends: &[u32]) -> Result<(), AllocError>
+fn promise_groups(
+    alloc: Global,
+    slots: &mut [Slot],
+    listed: &mut Vec<u32>,
+    ends: &[u32],
+) -> Result<(), AllocError>
+    requires places { length slots.old < 2 ^ 32 }
     requires whole { length ends.now ≡ length slots.old }
     requires cut { IsCut ends.now (2 ^ 32) }
     requires settled { All (λ lane. lane.promised ≡ 0) slots.old }
@@ -49,11 +63,14 @@ fn promise_groups(alloc: Global, slots: &mut [Slot], ends: &[u32]) -> Result<(),
         lane_at slots.new place ≡ promising (lane_at slots.old place) (size_at ends.now place)) }
     ensures kept { (place : ℕ) → place < length slots.old →
         IsRestored (size_at ends.now place) (lane_at slots.old place) (lane_at slots.new place) }
+    ensures listed { OnOk result (ListsBare slots.old (size_at ends.now) listed.old.items listed.new.items) }
+    ensures before { take (length listed.old.items) listed.new.items ≡ listed.old.items }
 {
     let mut from = 0;
     for place in 0..slots.len() {
         let to = ends[place];
-        slots[place].promise(alloc, (to - from) as usize)?;
+        let more = (to - from) as usize;
+        promise_listed(alloc, &mut slots[place], listed, place as u32, more)?;
         from = to;
     }
     Ok(())
@@ -66,7 +83,7 @@ fn accept_groups(slots: &mut [Slot], ends: &[u32], words: &[u64], front: u64)
     requires promised { (place : ℕ) → place < length slots.old →
         (lane_at slots.old place).promised ≡ size_at ends.now place }
     requires ahead { All (IsAhead front) slots.old }
-    requires small { All (λ lane. length lane.words + length words.now < 2 ^ 32) slots.old }
+    requires small { All (λ lane. known lane + length words.now < 2 ^ 32) slots.old }
     ensures { (place : ℕ) → place < length slots.old → lane_at slots.new place
         ≡ fold (accepting front) (lane_at slots.old place) (group_at ends.now words.now place) }
 {

@@ -1,9 +1,12 @@
 // The place of a vertex in its shard.
-ghost use Rattle.std.specs.Prelude.{◌≡◌, ◌+◌, ◌<◌, ◌≤◌, ◌^◌, ◌++◌, length, take, fold, OnOk, OnErr};
+ghost use Rattle.std.specs.Prelude.{◌≡◌, ◌+◌, ◌<◌, ◌≤◌, ◌^◌, length, fold, nat_lt, IfOk, OnOk, OnErr};
 ghost use Rattle.go_versions.specs.History.{count_at};
-ghost use Rattle.go_shard.specs.Lane.{empty_lane, promising, accepting, IsAhead};
+ghost use Rattle.go_shard.specs.Compacting.{CanCompact, HasRoomFor, Becomes, renewed};
+ghost use Rattle.go_shard.specs.Lane.{empty_lane, promising, accepting, known, list_at, IsAhead};
+ghost use Rattle.go_shard.specs.Listing.{is_bare};
 
 use crate::held::Held;
+use crate::renewal::Renewal;
 use std::alloc::{AllocError, Global};
 use std::marker::Model;
 
@@ -28,6 +31,26 @@ impl Slot {
         ensures { result ≡ empty_lane }
     {
         Slot { held: None }
+    }
+
+    /// Whether there are no words, and none are promised.
+    pub(crate) fn is_bare(&self) -> bool
+        ensures { result ≡ is_bare self.now }
+    {
+        match &self.held {
+            Some(held) => held.is_bare(),
+            None => true,
+        }
+    }
+
+    /// Whether there are words.
+    pub(crate) fn has_words(&self) -> bool
+        ensures { result ≡ nat_lt 0 (length self.now.words) }
+    {
+        match &self.held {
+            Some(held) => held.has_words(),
+            None => false,
+        }
     }
 
     /// Promises a place to so many more words.
@@ -70,7 +93,7 @@ impl Slot {
     pub(crate) fn accept(&mut self, words: &[u64], front: u64)
         requires promised { length words.now ≤ self.old.promised }
         requires ahead { IsAhead front self.old }
-        requires small { length self.old.words + length words.now < 2 ^ 32 }
+        requires small { known self.old + length words.now < 2 ^ 32 }
         ensures { self.new ≡ fold (accepting front) self.old words.now }
     {
         if !words.is_empty() {
@@ -83,7 +106,7 @@ impl Slot {
         requires some { 0 < length words.now }
         requires promised { length words.now ≤ self.old.promised }
         requires ahead { IsAhead front self.old }
-        requires small { length self.old.words + length words.now < 2 ^ 32 }
+        requires small { known self.old + length words.now < 2 ^ 32 }
         ensures { self.new ≡ fold (accepting front) self.old words.now }
     {
         if let Some(held) = &mut self.held {
@@ -91,8 +114,9 @@ impl Slot {
         }
     }
 
-    /// How many words there were at a front.
+    /// How many entries there were at a front.
     pub(crate) fn count_at(&self, front: u64) -> u32
+        requires { self.now.retired ≤ front }
         ensures { result ≡ count_at self.now.versions front }
     {
         match &self.held {
@@ -101,14 +125,61 @@ impl Slot {
         }
     }
 
-    /// Appends the first `k` words to `out`.
-    pub(crate) fn copy_front(&self, k: usize, out: &mut Vec<u64>) -> Result<(), AllocError>
-        requires { k ≤ length self.now.words }
-        ensures { OnOk result (out.new.items ≡ out.old.items ++ take k self.now.words) }
+    /// How many entries there are.
+    pub(crate) fn known(&self) -> u32
+        requires { known self.now < 2 ^ 32 }
+        ensures { result ≡ known self.now }
     {
         match &self.held {
-            Some(held) => held.copy_front(k, out),
-            None => Ok(()),
+            Some(held) => held.known(),
+            None => 0,
+        }
+    }
+
+    /// Gives the neighbours after the first `raw` entries into `out`, which is cleared first.
+    ///
+    /// After want of memory nothing is claimed of `out`.
+    pub(crate) fn list_at(
+        &self,
+        alloc: Global,
+        raw: u32,
+        out: &mut Vec<u32>,
+    ) -> Result<(), AllocError>
+        requires from { self.now.floor ≤ raw }
+        requires there { raw ≤ known self.now }
+        ensures { OnOk result (out.new.items ≡ list_at self.now raw) }
+    {
+        match &self.held {
+            Some(held) => held.list_at(alloc, raw, out),
+            None => {
+                out.clear();
+                Ok(())
+            }
+        }
+    }
+
+    /// What the vertex becomes when it is compacted at a front, in memory of its own; none where it stays what it is.
+    pub(crate) fn compacted(&self, alloc: Global, front: u64) -> Result<Option<Renewal>, AllocError>
+        requires can { CanCompact front self.now }
+        ensures { IfOk result (λ renewal. Becomes front self.now renewal) }
+    {
+        match &self.held {
+            Some(held) => held.compacted(alloc, front),
+            None => Ok(None),
+        }
+    }
+
+    /// Takes the place that the vertex has after a compaction, unless it has it already; takes no memory.
+    pub(crate) fn renew(&mut self, renewal: Renewal)
+        requires there { renewal.base.value.floor ≤ known self.old }
+        requires room { self.old.floor < renewal.base.value.floor → HasRoomFor renewal self.old }
+        ensures already { renewal.base.value.floor ≤ self.old.floor → self.new ≡ self.old }
+        ensures renewed { self.old.floor < renewal.base.value.floor → self.new ≡ record (renewed renewal self.old) { spare = self.new.spare } }
+    {
+        if let Some(held) = &mut self.held
+            && held.floor() < renewal.base.floor
+        {
+            held.renew(renewal);
         }
     }
 }

@@ -1,24 +1,21 @@
 // A shard of the vertices.
-ghost use Rattle.std.specs.Prelude.{◌≡◌, ℕ, ◌+◌, ◌-◌, ◌<◌, ◌≤◌, ◌^◌, [], ◌∷◌, ◌++◌, List, length, replicate, take, All, Contains, IfOk, OnOk, OnErr, true};
+ghost use Rattle.std.specs.Prelude.{◌≡◌, ℕ, ◌+◌, ◌-◌, ◌<◌, ◌≤◌, ◌^◌, [], ◌++◌, List, length, replicate, take, All, IfOk, OnOk, OnErr, true};
 ghost use Rattle.go_word.specs.declared.edge.Edge.{Edge as Entry};
 ghost use Rattle.go_word.specs.Log.{IsWithin, raw, entries_from};
 ghost use Rattle.go_word.specs.Neighbours.{neighbours};
-ghost use Rattle.go_versions.specs.History.{count_at};
-ghost use Rattle.go_net.specs.Net.{net_of};
 ghost use Rattle.go_shard.specs.Lane.{empty_lane};
-ghost use Rattle.go_shard.specs.ShardState.{IsOf, is_own, lane_of};
-ghost use Rattle.go_shard.specs.Stands.{Stands, GoesOn};
+ghost use Rattle.go_shard.specs.ShardState.{IsOf, Keeps, is_own, lane_of, told, IsAtRest};
+ghost use Rattle.go_shard.specs.Stands.{Stands, GoesOn, HasGrown, HasForgotten};
 
 use crate::batch::take_batch;
-use crate::places::Places;
+use crate::compacting::compact_listed;
+use crate::fronts::{FrontRange, forget_below};
+use crate::listing::forget_bare;
 use crate::slot::Slot;
-use go_net::net;
-use go_word::Edge;
+use crate::striping::Striping;
+use go_word::{Edge, Pin, VERTEX_LIMIT};
 use std::alloc::{AllocError, Global};
 use std::marker::Model;
-
-/// A shard has at most so many vertices.
-pub const VERTEX_LIMIT: u32 = 1 << 20;
 
 /// The entries of the vertices `index`, `index + shards`, `index + 2 * shards` and so on, up to a front.
 #[derive(Drop)]
@@ -27,15 +24,21 @@ pub struct Shard {
     index: u32,
     shards: u32,
     vertices: u32,
-    // grown by appends
-    front: u64,
-    cut: u64,
-    fronts: Vec<u64>,
+    // grown by appends, shortened by compactions
+    pub(crate) front: u64,
+    pub(crate) cut: u64,
+    pub(crate) earlier: Vec<FrontRange>,
+    pub(crate) since: u64,
     slots: Vec<Slot>,
+    // the places of vertices that have words
+    listed: Vec<u32>,
+    // what holds compactions back
+    pub(crate) pins: Vec<Pin>,
 }
 
 impl Model for Shard {
     ghost use Rattle.go_shard.specs.ShardState.{ShardState, IsSound};
+    ghost use Rattle.go_shard.specs.Listing.{AreListed};
 
     ghost Value = { ShardState };
 
@@ -45,7 +48,8 @@ impl Model for Shard {
       vertices = shard.vertices;
       front = shard.front;
       cut = shard.cut;
-      fronts = shard.fronts.items;
+      fronts = record { earlier = shard.earlier.items; since = shard.since };
+      pins = shard.pins.items;
       lanes = shard.slots.items;
     } };
 
@@ -55,9 +59,10 @@ impl Model for Shard {
       vertices = shard.vertices;
       front = shard.front;
       cut = shard.cut;
-      fronts = shard.fronts.items;
+      fronts = record { earlier = shard.earlier.items; since = shard.since };
+      pins = shard.pins.items;
       lanes = shard.slots.items;
-    }) };
+    }) × AreListed shard.listed.items shard.slots.items };
 }
 
 impl Shard {
@@ -70,18 +75,19 @@ impl Shard {
         ensures index { IfOk result (λ shard. shard.index ≡ index) }
         ensures shards { IfOk result (λ shard. shard.shards ≡ shards) }
         ensures vertices { IfOk result (λ shard. shard.vertices ≡ vertices) }
-        ensures fronts { IfOk result (λ shard. shard.fronts ≡ 0 ∷ []) }
+        ensures pins { IfOk result (λ shard. shard.pins ≡ []) }
     {
-        let mut fronts = Vec::new(alloc);
-        fronts.push(0)?;
         Ok(Shard {
             index,
             shards,
             vertices,
             front: 0,
             cut: 0,
-            fronts,
+            earlier: Vec::new(alloc),
+            since: 0,
             slots: empty_slots(alloc, (vertices / shards) as usize + 1)?,
+            listed: Vec::new(alloc),
+            pins: Vec::new(alloc),
         })
     }
 
@@ -100,6 +106,8 @@ impl Shard {
     }
 
     /// Takes the shard's entries of the log between its front and a later one, which is kept from then on.
+    ///
+    /// Without entries nothing is asked for, and all fronts between the two are kept.
     pub fn append(&mut self, batch: &[Edge], front: u64) -> Result<(), AllocError>
         requires later { self.old.front < front }
         requires small { front < 2 ^ 32 }
@@ -108,18 +116,29 @@ impl Shard {
         requires own { All (λ e. is_own self.old e ≡ true) batch.now }
         ensures stands { (log more : List Entry) → Stands self.old log → GoesOn self.old more batch.now front →
             OnOk result (Stands self.new (log ++ more)) }
-        ensures grown { OnOk result (self.new ≡ record self.old {
-          front = front;
-          fronts = self.old.fronts ++ front ∷ [];
-          lanes = self.new.lanes;
-        }) }
+        ensures grown { OnOk result (HasGrown front batch.now self.old self.new) }
         ensures err { OnErr result (self.new ≡ self.old) }
     {
+        if batch.is_empty() {
+            self.front = front;
+            return Ok(());
+        }
         let alloc = *self.slots.allocator();
-        self.fronts.reserve(1)?;
-        let shards = Places::new(self.shards);
-        take_batch(alloc, shards, &mut self.slots, batch, front)?;
-        self.fronts.push_reserved(front);
+        self.earlier.reserve(1)?;
+        let shards = Striping::new(self.shards);
+        take_batch(
+            alloc,
+            shards,
+            &mut self.slots,
+            &mut self.listed,
+            batch,
+            front,
+        )?;
+        self.earlier.push_reserved(FrontRange {
+            first: self.since as u32,
+            last: self.front as u32,
+        });
+        self.since = front;
         self.front = front;
         Ok(())
     }
@@ -127,13 +146,19 @@ impl Shard {
     /// How many entries had left the vertex `v` at a front that is kept, additions and deletions alike.
     pub fn degree_at(&self, v: u32, front: u64) -> u32
         requires own { IsOf self.now v }
-        requires kept { Contains self.now.fronts front }
+        requires kept { Keeps self.now front }
         requires uncut { self.now.cut ≤ front }
-        ensures count { result ≡ count_at (lane_of self.now v).versions front }
-        ensures there { result ≤ length (lane_of self.now v).words }
+        ensures count { result ≡ told self.now v front }
+        ensures from { told self.now v self.now.cut ≤ result }
+        ensures there { result ≤ told self.now v self.now.front }
         ensures raw { (log : List Entry) → Stands self.now log → result ≡ raw (take front log) v }
     {
-        self.slot_of(v).count_at(front)
+        let slot = self.slot_of(v);
+        if front == self.front {
+            slot.known()
+        } else {
+            slot.count_at(front)
+        }
     }
 
     /// Gives the neighbours of `v` after the first `raw` of its entries into `out`, which is cleared first.
@@ -141,24 +166,44 @@ impl Shard {
     /// After want of memory nothing is claimed of `out`.
     pub fn neighbours(&self, v: u32, raw: u32, out: &mut Vec<u32>) -> Result<(), AllocError>
         requires own { IsOf self.now v }
-        requires there { raw ≤ length (lane_of self.now v).words }
-        ensures words { OnOk result (out.new.items ≡ net_of [] (take raw (lane_of self.now v).words)) }
-        ensures log { (log : List Entry) → Stands self.now log →
+        requires from { told self.now v self.now.cut ≤ raw }
+        requires there { raw ≤ told self.now v self.now.front }
+        ensures { (log : List Entry) → Stands self.now log →
             OnOk result (out.new.items ≡ neighbours (take raw (entries_from v log)) v) }
     {
         let alloc = *self.slots.allocator();
-        let mut words = Vec::with_capacity(alloc, raw as usize)?;
-        self.slot_of(v).copy_front(raw as usize, &mut words)?;
-        net(alloc, &[], &words, out)
+        self.slot_of(v).list_at(alloc, raw, out)
+    }
+
+    /// Forgets how the log's entries up to a front came, and keeps the neighbours that they made.
+    pub fn compact(&mut self, front: u64) -> Result<(), AllocError>
+        requires kept { Keeps self.old front }
+        requires uncut { self.old.cut ≤ front }
+        requires pinned { All (λ pin. front ≤ pin.front) self.old.pins }
+        ensures stands { (log : List Entry) → Stands self.old log → OnOk result (Stands self.new log) }
+        ensures forgotten { OnOk result (HasForgotten front self.old self.new) }
+        ensures err { OnErr result (self.new ≡ self.old) }
+    {
+        if front == self.cut {
+            return Ok(());
+        }
+        let alloc = *self.slots.allocator();
+        compact_listed(alloc, &mut self.slots, &self.listed, front)?;
+        forget_bare(&self.slots, &mut self.listed);
+        forget_below(&mut self.earlier, front);
+        self.cut = front;
+        Ok(())
     }
 
     // The place of a vertex of this shard.
     fn slot_of(&self, v: u32) -> &Slot
         requires { IsOf self.now v }
         ensures lane { result.now ≡ lane_of self.now v }
-        ensures few { (f : ℕ) → count_at (lane_of self.now v).versions f ≤ length (lane_of self.now v).words }
+        ensures rest { IsAtRest self.now.cut self.now.front (lane_of self.now v) }
+        ensures bounds { (f : ℕ) → Keeps self.now f → f ≤ self.now.front }
+        ensures small { self.now.front < 2 ^ 32 }
     {
-        &self.slots[Places::new(self.shards).place_of(v)]
+        &self.slots[Striping::new(self.shards).place_of(v)]
     }
 }
 

@@ -8,5 +8,7 @@ use Rattle.go_shard.proofs.batch.accept_all.Given as goal
 abbrev pub invariant-loop-edge : goal.invariant-loop-edge
 invariant-loop-edge l = record {
   all : length l.slots ≡ length l.initial.slots;
-  accepted : (place : ℕ) → lane_at l.slots place ≡ fold (accepting l.front) (lane_at l.initial.slots place) (map plain_word (filter (is_at l.shards place) (take l.edge-index l.batch)));
+  accepted : (place : ℕ) →
+      lane_at l.slots place ≡ fold (accepting l.front) (lane_at l.initial.slots place)
+      (map plain_word (filter (is_at l.shards place) (take l.edge-index l.batch)));
 }

@@ -7,5 +7,6 @@ use Rattle.go_shard.proofs.batch.withdraw_all.Given as goal
 abbrev pub invariant-loop-edge : goal.invariant-loop-edge
 invariant-loop-edge l = record {
   all : length l.slots ≡ length l.initial.slots;
-  withdrawn : (place : ℕ) → lane_at l.slots place ≡ (if count_by (is_at l.shards place) (take l.edge-index l.batch) == 0 then lane_at l.initial.slots place else promising (lane_at l.initial.slots place) 0);
+  withdrawn : (place : ℕ) → lane_at l.slots place ≡ (if count_by (is_at l.shards place) (take l.edge-index l.batch) == 0 then lane_at l.initial.slots place
+      else promising (lane_at l.initial.slots place) 0);
 }

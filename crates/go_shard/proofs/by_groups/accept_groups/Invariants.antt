@@ -10,5 +10,6 @@ abbrev pub invariant-loop-place : goal.invariant-loop-place
 invariant-loop-place l = record {
   all : length l.slots ≡ length l.initial.slots;
   begins : l.from ≡ begin_of l.ends l.place;
-  accepted : (place : ℕ) → lane_at l.slots place ≡ (if nat_lt place l.place then fold (accepting l.front) (lane_at l.initial.slots place) (group_at l.ends l.words place) else lane_at l.initial.slots place);
+  accepted : (place : ℕ) → lane_at l.slots place ≡ (if nat_lt place l.place
+      then fold (accepting l.front) (lane_at l.initial.slots place) (group_at l.ends l.words place) else lane_at l.initial.slots place);
 }

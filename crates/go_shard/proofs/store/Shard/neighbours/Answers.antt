@@ -1,15 +1,15 @@
--- What the words make is the neighbours by the log that the shard stands for.
-use Rattle.std.proofs.Common.{◌≡◌, ◌≤◌, ◌^◌, ◌∙◌, ◌++◌, List, ℕ, [], take, subst, ap}
-use Rattle.std.specs.Prelude.{OnOk}
-use Rattle.go_net.specs.Net.{net_of}
-use Rattle.go_shard.specs.Lane.{Lane}
-use Rattle.go_shard.specs.ShardState.{ShardState, lane_of}
-use Rattle.go_shard.proofs.StandsLemmas.{net_of-first}
+-- What the lane lists are the neighbours by the log that the shard stands for.
+use Rattle.std.proofs.Common.{◌≤◌, ap, subst, arith, ◌∙◌}
+use Rattle.std.proofs.lemmas.Result.{on_ok_weaker}
+use Rattle.go_shard.specs.Lane.{Lane, list_at}
+use Rattle.go_shard.specs.ShardState.{lane_of, IsSound}
+use Rattle.go_shard.proofs.GrowthLemmas.{list_at-log}
 use Rattle.go_shard.proofs.store.Shard.neighbours.Goals as goal
 
-pub returns-clause-log : goal.returns-clause-log
-returns-clause-log c = λ log stands.
-    let small : c.args.self.now.vertices ≤ 2 ^ 20 = subst (λ (s : ShardState). s.vertices ≤ 2 ^ 20) c.self.view_is c.self.invariant.small in
-    let words : c.deref.result.now ≡ take c.args.raw (lane_of c.args.self.now c.args.v).words =
-    c.deref.ensures.value ∙ c.in_ok-copy_front.ensures ∙ ap (λ (l : List ℕ). l ++ take c.args.raw c.slot_of.result.now.words) c.in_ok-words.ensures.items ∙ ap (λ (lane : Lane). take c.args.raw lane.words) c.slot_of.ensures.lane in
-    subst (λ (l : List ℕ). OnOk c.net.result (c.net.new.out.items ≡ l)) (ap (net_of []) words ∙ net_of-first c.args.self.now log c.args.v c.args.raw small stands c.requires.own) c.net.ensures.exact
+pub returns : goal.returns
+returns c = λ log stands.
+    let sound : IsSound c.args.self.now = subst IsSound c.self.view_is c.self.invariant.0 in
+    let enough : (lane_of c.args.self.now c.args.v).floor ≤ c.args.raw = omega (arith, c.slot_of.ensures.rest.at_cut, c.requires.from) in
+    on_ok_weaker c.list_at.result (λ gives.
+    gives ∙ ap (λ (lane : Lane). list_at lane c.args.raw) c.slot_of.ensures.lane
+    ∙ list_at-log c.args.self.now log c.args.v c.args.raw sound stands c.requires.own enough) c.list_at.ensures

@@ -1,40 +1,40 @@
-// Where a vertex lies in its shard.
+// How vertices lie in stripes over shards: which place a vertex has in its shard.
 ghost use Rattle.std.specs.Prelude.{◌≡◌, ◌<◌, ◌/◌};
 
 use std::marker::Model;
 
 /// Finds the place of a vertex in its shard. Contracts see the number of shards.
 #[derive(Clone, Copy)]
-pub(crate) struct Places {
+pub(crate) struct Striping {
     shards: u32,
     /// How many zeros `shards` ends with: where it is a power of two, a shift by so many divides by it.
     shift: u32,
 }
 
-impl Model for Places {
+impl Model for Striping {
     ghost use Rattle.std.specs.Prelude.{ℕ, ◌≡◌, ◌<◌};
     ghost use Rattle.std.specs.Int.{w32, trailing_zeros};
     ghost use Rattle.std.proofs.Common.{sym};
 
     ghost Value = { ℕ };
 
-    ghost view = { λ places. places.shards };
+    ghost view = { λ striping. striping.shards };
 
-    ghost invariant = { λ places. (0 < places.shards) × (places.shift ≡ trailing_zeros w32 places.shards) };
+    ghost invariant = { λ striping. (0 < striping.shards) × (striping.shift ≡ trailing_zeros w32 striping.shards) };
 
     // the number gives its shift back, so this may be `Copy`
     ghost inverse = { λ shards. record { shards = shards; shift = trailing_zeros w32 shards } };
 
-    ghost inverse_ok = { λ places h i. record { shards = places.shards; shift = sym h.1 i } };
+    ghost inverse_ok = { λ striping h i. record { shards = striping.shards; shift = sym h.1 i } };
 }
 
-impl Places {
+impl Striping {
     /// For so many shards.
-    pub(crate) fn new(shards: u32) -> Places
+    pub(crate) fn new(shards: u32) -> Striping
         requires { 0 < shards }
         ensures { result ≡ shards }
     {
-        Places {
+        Striping {
             shards,
             shift: shards.trailing_zeros(),
         }
