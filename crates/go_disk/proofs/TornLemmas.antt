@@ -1,5 +1,6 @@
 -- An image after a write is an image before it that the write tore.
-use Rattle.std.proofs.Common.{◌≡◌, ◌⊎◌, inl, inr, ℕ, zero, suc, ◌+◌, ◌-◌, ◌<◌, ◌≤◌, List, [], ◌∷◌, ◌++◌, length, get_or, take, drop, refl, sym, ◌∙◌, ap, arith, length-append, length-take, length-drop}
+use Rattle.std.proofs.Common.{◌≡◌, ◌⊎◌, inl, inr, ℕ, zero, suc, ◌+◌, ◌-◌, ◌<◌, ◌≤◌, List, [], ◌∷◌, ◌++◌, length, get_or, take, drop, refl, sym, ◌∙◌, ap}
+use Rattle.std.proofs.Common.{arith, length-append, length-take, length-drop}
 use Rattle.std.specs.Prelude.{min, All}
 use Rattle.std.proofs.lemmas.List.{get_or_append_left, get_or-take, get_or-drop, get_or-append_right, take_at, drop_all, ext_get_or}
 use Rattle.std.proofs.lemmas.List.Elements.{All-push, All-nil}
@@ -22,10 +23,15 @@ pub record Before (stable : List ℕ) (spans : List Span) (at n : ℕ) (image : 
 le_or_lt : (m n : ℕ) → (m ≤ n) ⊎ (n < m)
 le_or_lt zero n = inl (omega arith)
 le_or_lt (suc m) zero = inr (omega arith)
-le_or_lt (suc m) (suc n) = elim (le_or_lt m n) as (λ _. (suc m ≤ suc n) ⊎ (suc n < suc m)) [ inl le ↦ inl (omega (arith, le)) | inr lt ↦ inr (omega (arith, lt)) ]
+le_or_lt (suc m) (suc n) = elim (le_or_lt m n) as (λ _. (suc m ≤ suc n) ⊎ (suc n < suc m)) [
+  | inl le ↦ inl (omega (arith, le))
+  | inr lt ↦ inr
+      (omega (arith, lt))
+]
 
 -- inside of what is written stand the bytes
-inside_written : (old : List ℕ) (at : ℕ) (bytes : List ℕ) (place : ℕ) → at ≤ length old → at ≤ place → place < at + length bytes → get_or (overwritten old at bytes) place 0 ≡ get_or bytes (place - at) 0
+inside_written : (old : List ℕ) (at : ℕ) (bytes : List ℕ) (place : ℕ) → at ≤ length old → at ≤ place → place < at + length bytes
+    → get_or (overwritten old at bytes) place 0 ≡ get_or bytes (place - at) 0
 inside_written old at bytes place within from below =
     get_or-append_right (take at old) (bytes ++ drop (at + length bytes) old) at place 0 (omega (arith, length-take at old)) from
     ∙ get_or_append_left bytes (drop (at + length bytes) old) 0 (place - at) (omega arith)
@@ -114,7 +120,8 @@ module _ (stable : List ℕ) (spans : List Span) (at n : ℕ) (image : List ℕ)
           before = sym (take_at (take at image) (middle ++ drop (at + length middle) image) at front);
           after = ext_get_or 0 (drop (at + n) image) (drop (at + n) was) (omega (arith, size, length-drop (at + n) image, length-drop (at + n) was)) (λ k below.
               get_or-drop (at + n) image k 0
-              ∙ sym (get_or-drop (at + n) was k 0 ∙ beside_written image at middle (at + n + k) (omega (arith, below, length-drop (at + n) image)) (inr (omega (arith, some)))));
+              ∙ sym (get_or-drop (at + n) was k 0 ∙ beside_written image at middle (at + n + k) (omega (arith, below, length-drop (at + n) image))
+              (inr (omega (arith, some)))));
           no_shorter = omega (arith, size);
           no_longer = omega (arith, size);
         };
@@ -131,4 +138,5 @@ module _ (stable : List ℕ) (spans : List Span) (at n : ℕ) (image : List ℕ)
 
 -- after a sync the one image is what was synced
 pub only_stable : (stable image : List ℕ) → IsImage stable [] image → image ≡ stable
-only_stable stable image is = ext_get_or 0 image stable (omega (arith, is.no_shorter, is.no_longer)) (λ place below. is.elsewhere place (omega (arith, below, is.no_longer)) (All-nil (IsOutside place)))
+only_stable stable image is = ext_get_or 0 image stable (omega (arith, is.no_shorter, is.no_longer)) (λ place below.
+    is.elsewhere place (omega (arith, below, is.no_longer)) (All-nil (IsOutside place)))

@@ -1,4 +1,5 @@
 -- What the contracts of disks cite.
+pub mod Device
 pub mod Disk
 pub mod Image
 pub mod MemDisk

@@ -1,8 +1,10 @@
 -- A disk in memory, as contracts see it: what was done with it, from which all that it tells follows.
-use Rattle.std.specs.Prelude.{◌⊎◌, ℕ, ◌+◌, ◌<◌, ◌≤◌, Bool, if◌then◌else◌, nat_lt, List, [], ◌∷◌, ◌++◌, length, Contains, Option, None, Some, IsSomeAnd, unwrap_or, Result, Ok, Err}
+use Rattle.std.specs.Prelude.{◌⊎◌, ℕ, ◌+◌, ◌<◌, ◌≤◌, Bool, if◌then◌else◌, nat_lt, List, [], ◌∷◌, ◌++◌, length, Contains, Option, None, Some, IsSomeAnd}
+use Rattle.std.specs.Prelude.{unwrap_or, Result, Ok, Err}
 use Rattle.go_text.specs.Causes.{raised}
 use Rattle.go_disk.specs.declared.span.Span.{Span}
-use Rattle.go_disk.specs.Disk.{overwritten, Elapses}
+use Rattle.go_disk.specs.Device.{Device}
+use Rattle.go_disk.specs.Disk.{overwritten, blundered}
 use Rattle.go_disk.specs.Image.{IsImage}
 
 -- what a call did: nothing to the bytes, a write of bytes at a place, a failed write of so many bytes at a place, or a sync
@@ -13,7 +15,7 @@ pub data Step : Type 0 where
   synced : Step
 
 -- the bytes that a disk was made with, what its calls did, the newest first, the numbers of the calls that fail, from which number on
--- all fail, how much it may record, and how often it failed
+-- all fail, how much it may record, how often it failed, and how often a range was asked for that wasn't there
 pub record Tape : Type 0 where
   pub first : List ℕ
   pub steps : List Step
@@ -21,14 +23,15 @@ pub record Tape : Type 0 where
   pub stop : Option ℕ
   pub room : ℕ
   pub faults : ℕ
+  pub blunders : ℕ
 
 -- what a read gives after these steps
-abbrev pub seen_after : List ℕ → List Step → List ℕ
-seen_after first [] = first
-seen_after first (looked ∷ steps) = seen_after first steps
-seen_after first (wrote at bytes ∷ steps) = overwritten (seen_after first steps) at bytes
-seen_after first (tore at count ∷ steps) = seen_after first steps
-seen_after first (synced ∷ steps) = seen_after first steps
+abbrev pub contents_after : List ℕ → List Step → List ℕ
+contents_after first [] = first
+contents_after first (looked ∷ steps) = contents_after first steps
+contents_after first (wrote at bytes ∷ steps) = overwritten (contents_after first steps) at bytes
+contents_after first (tore at count ∷ steps) = contents_after first steps
+contents_after first (synced ∷ steps) = contents_after first steps
 
 -- what a read gave at the last sync, if there was one
 abbrev pub base_after : List ℕ → List Step → Option (List ℕ)
@@ -36,7 +39,7 @@ base_after first [] = None
 base_after first (looked ∷ steps) = base_after first steps
 base_after first (wrote at bytes ∷ steps) = base_after first steps
 base_after first (tore at count ∷ steps) = base_after first steps
-base_after first (synced ∷ steps) = Some (seen_after first steps)
+base_after first (synced ∷ steps) = Some (contents_after first steps)
 
 -- what can't be lost: the base, and before the first sync the bytes that the disk was made with
 abbrev pub stable_after : List ℕ → List Step → List ℕ
@@ -59,6 +62,14 @@ abbrev pub ImageSince : List ℕ → List Step → ℕ → List ℕ → Type 0
 ImageSince first [] count image = ImageAfter first [] image
 ImageSince first (step ∷ steps) count image = ImageAfter first (step ∷ steps) image ⊎ ((count ≤ length steps) × ImageSince first steps count image)
 
+-- the moments of the syncs among steps, the newest first; the moment of a step is how many there were with it
+abbrev pub syncs_after : List Step → List ℕ
+syncs_after [] = []
+syncs_after (looked ∷ steps) = syncs_after steps
+syncs_after (wrote at bytes ∷ steps) = syncs_after steps
+syncs_after (tore at count ∷ steps) = syncs_after steps
+syncs_after (synced ∷ steps) = length (synced ∷ steps) ∷ syncs_after steps
+
 -- how much of the room steps take: each counts 1, and each byte that it wrote 1
 abbrev pub used_by : List Step → ℕ
 used_by [] = 0
@@ -69,11 +80,11 @@ used_by (synced ∷ steps) = used_by steps + 1
 
 -- a disk that was just made, of which no call was asked
 abbrev pub blank : List ℕ → List ℕ → Option ℕ → ℕ → Tape
-blank first failing stop room = record { first = first; steps = []; failing = failing; stop = stop; room = room; faults = 0 }
+blank first failing stop room = record { first = first; steps = []; failing = failing; stop = stop; room = room; faults = 0; blunders = 0 }
 
 -- what a read of the disk gives
-abbrev pub seen_of : Tape → List ℕ
-seen_of tape = seen_after tape.first tape.steps
+abbrev pub contents_of : Tape → List ℕ
+contents_of tape = contents_after tape.first tape.steps
 
 -- what a read of it gave at the last sync, if there was one
 abbrev pub base_of : Tape → Option (List ℕ)
@@ -91,9 +102,22 @@ IsImageOf tape image = ImageAfter tape.first tape.steps image
 abbrev pub IsImageSince : Tape → ℕ → List ℕ → Type 0
 IsImageSince tape moment image = ImageSince tape.first tape.steps moment image
 
--- time goes on from one disk to the other
-abbrev pub Passes : Tape → Tape → Type 0
-Passes old new = Elapses (length old.steps) (length new.steps) (IsImageSince old) (IsImageSince new) (IsImageOf new)
+-- the moments of the syncs that it recorded, the newest first
+abbrev pub syncs_of : Tape → List ℕ
+syncs_of tape = syncs_after tape.steps
+
+-- what a disk in memory tells
+abbrev pub mem_device : Device Tape
+mem_device = record {
+  contents = λ tape. Some (contents_of tape);
+  base = base_of;
+  images = IsImageOf;
+  clock = λ tape. length tape.steps;
+  since = IsImageSince;
+  faults = λ tape. tape.faults;
+  syncs = syncs_of;
+  blunders = λ tape. tape.blunders;
+}
 
 -- there is no room for a call that costs so much
 abbrev pub is_full : Tape → ℕ → Bool
@@ -109,11 +133,11 @@ Fails tape = (tape.room < used_by tape.steps + 1) ⊎ IsListed tape
 
 -- a read of so many bytes at a place fails
 abbrev pub FailsRead : Tape → ℕ → ℕ → Type 0
-FailsRead tape at count = Fails tape ⊎ (length (seen_of tape) < at + count)
+FailsRead tape at count = Fails tape ⊎ (length (contents_of tape) < at + count)
 
 -- a write of so many bytes at a place fails
 abbrev pub FailsWrite : Tape → ℕ → ℕ → Type 0
-FailsWrite tape at count = (tape.room < used_by tape.steps + (1 + count)) ⊎ (IsListed tape ⊎ (length (seen_of tape) < at))
+FailsWrite tape at count = (tape.room < used_by tape.steps + (1 + count)) ⊎ (IsListed tape ⊎ (length (contents_of tape) < at))
 
 -- one step more
 abbrev pub noted : Tape → Step → Tape
@@ -122,6 +146,10 @@ noted tape step = record tape { steps = step ∷ tape.steps }
 -- one fault more
 abbrev pub faulted : Tape → Tape
 faulted tape = record tape { faults = raised tape.faults }
+
+-- the bytes up to an end were asked for
+abbrev pub asked : Tape → ℕ → Tape
+asked tape end = record tape { blunders = blundered (Some (contents_of tape)) end tape.blunders }
 
 -- after a call that changes no byte: one over the room changes nothing but the count of faults
 abbrev pub after_look : {T E : Type 0} → Step → Tape → Result T E → Tape
@@ -133,5 +161,5 @@ abbrev pub after_write : {T E : Type 0} → ℕ → List ℕ → Tape → Result
 after_write at bytes tape (Ok answer) = noted tape (wrote at bytes)
 after_write at bytes tape (Err fault) =
     if is_full tape (1 + length bytes) then faulted tape
-    else (if nat_lt (length (seen_of tape)) at then faulted (noted tape looked)
+    else (if nat_lt (length (contents_of tape)) at then faulted (noted tape looked)
     else faulted (noted tape (tore at (length bytes))))

@@ -1,25 +1,29 @@
 // A file of the system as a disk.
-ghost use Rattle.std.specs.Prelude.{◌≡◌, None, refl};
-ghost use Rattle.std.proofs.lemmas.Option.{none-some};
+ghost use Rattle.std.specs.Prelude.{◌≡◌};
 ghost use Rattle.go_text.specs.Causes.{HasCause};
+ghost use Rattle.go_disk.specs.Device.{silent, silent_rules};
 
 use crate::Disk;
-use crate::counts::one_more;
-use go_text::{Failed, Text};
-use std::fs::{self, File};
+use crate::folder::sync_folder;
+use go_text::{Failed, Text, one_more};
+use std::fs::File;
 use std::io::{self, ErrorKind};
 use std::marker::Model;
 use std::os::unix::fs::FileExt;
-use std::path::Path;
 use std::rt::Files;
 
 /// A file of the system, seen as its count of faults. It tells nothing of its content.
-/// It is opened at the first call, and made where it isn't there. A file that can't be opened is a fault of that call.
+///
+/// It is opened at the first call, to read and to write, and made where it isn't there. From then on it is locked for as
+/// long as the disk lives, so a second disk on it fails. A file that can't be opened or locked is a fault of that call.
+/// After a sync that failed the system may take for stable what isn't, and neither a read nor a later sync would tell:
+/// so each later call fails, and writes nothing.
 #[derive(Drop)]
 pub struct FileDisk<'a, R> {
     rt: &'a R,
     name: Text,
     file: Option<File>,
+    has_lost: bool,
     faults: u64,
 }
 
@@ -31,7 +35,7 @@ impl<'a, R> Model for FileDisk<'a, R> {
     ghost view = { λ disk. disk.faults };
 }
 
-impl<'a, R: Files<File = File> + Sync> FileDisk<'a, R> {
+impl<'a, R: Files<File = File> + Alloc + Sync> FileDisk<'a, R> {
     /// The file of this name, which has not been opened and has not failed yet.
     pub fn named(rt: &'a R, name: Text) -> FileDisk<'a, R>
         ensures { result ≡ 0 }
@@ -40,41 +44,32 @@ impl<'a, R: Files<File = File> + Sync> FileDisk<'a, R> {
             rt,
             name,
             file: None,
+            has_lost: false,
             faults: 0,
         }
     }
+
+    // Does what a sync does that the system fails.
+    #[cfg(test)]
+    pub(crate) fn lose(&mut self) {
+        self.has_lost = true;
+    }
 }
 
-impl<R: Files<File = File> + Sync> Disk for FileDisk<'_, R> {
-    ghost seen = { λ _. None };
+impl<R: Files<File = File> + Alloc + Sync> Disk for FileDisk<'_, R> {
+    ghost device = { silent (λ faults. faults) };
 
-    ghost base = { λ _. None };
-
-    ghost images = { λ _ image. ⊥ };
-
-    ghost clock = { λ _. 0 };
-
-    ghost since = { λ _ t image. ⊥ };
-
-    ghost faults = { λ faults. faults };
-
-    ghost seen_is_image = { λ disk bytes told. none-some bytes told };
-
-    ghost base_is_image = { λ disk bytes told. none-some bytes told };
-
-    ghost untold = { λ disk nothing. (refl, λ image is_image. is_image) };
-
-    ghost counts_now = { λ disk t image passed is_image. is_image };
-
-    ghost only_now = { λ disk image is_image. is_image };
+    ghost rules = { silent_rules (λ faults. faults) };
 
     fn len(&mut self) -> Result<u64, Failed> {
-        let answer = opened(self.rt, &self.name, &mut self.file).and_then(length);
+        let answer = opened(self.rt, &self.name, &mut self.has_lost, &mut self.file).and_then(
+            length,
+        );
         noted(&mut self.faults, answer)
     }
 
     fn read(&mut self, at: u64, out: &mut [u8]) -> Result<(), Failed> {
-        let answer = match opened(self.rt, &self.name, &mut self.file) {
+        let answer = match opened(self.rt, &self.name, &mut self.has_lost, &mut self.file) {
             Ok(file) => file.read_exact_at(out, at),
             Err(error) => Err(error),
         };
@@ -82,7 +77,7 @@ impl<R: Files<File = File> + Sync> Disk for FileDisk<'_, R> {
     }
 
     fn write_at(&mut self, at: u64, bytes: &[u8]) -> Result<(), Failed> {
-        let answer = match opened(self.rt, &self.name, &mut self.file) {
+        let answer = match opened(self.rt, &self.name, &mut self.has_lost, &mut self.file) {
             Ok(file) => write_within(file, at, bytes),
             Err(error) => Err(error),
         };
@@ -90,8 +85,12 @@ impl<R: Files<File = File> + Sync> Disk for FileDisk<'_, R> {
     }
 
     fn sync(&mut self) -> Result<(), Failed> {
-        let answer = match opened(self.rt, &self.name, &mut self.file) {
-            Ok(file) => file.sync_all(),
+        let answer = match opened(self.rt, &self.name, &mut self.has_lost, &mut self.file) {
+            Ok(file) => {
+                let answer = file.sync_all();
+                self.has_lost = answer.is_err();
+                answer
+            }
             Err(error) => Err(error),
         };
         noted(&mut self.faults, answer)
@@ -111,36 +110,36 @@ fn noted<T>(faults: &mut u64, answer: io::Result<T>) -> Result<T, Failed>
     }
 }
 
-// The file, opened if it isn't yet.
-fn opened<'f, R: Files<File = File>>(
+// The file, opened if it isn't yet, unless a sync has failed. A file that was just made could be lost with its name, so
+// its folder is synced.
+fn opened<'f, R: Files<File = File> + Alloc>(
     rt: &R,
     name: &Text,
+    has_lost: &mut bool,
     file: &'f mut Option<File>,
 ) -> io::Result<&'f File> {
+    if *has_lost {
+        return Err(ErrorKind::Other.into());
+    }
     if file.is_none() {
-        *file = Some(open_or_make(rt, name.as_text())?);
+        let made = open_or_make(rt, name.as_text())?;
+        let answer = sync_folder(rt, name.as_text());
+        *has_lost = answer.is_err();
+        answer?;
+        *file = Some(made);
     }
     file.as_ref().ok_or(io::Error::from(ErrorKind::NotFound))
 }
 
-// Opens a file to read and write, and makes it where it isn't there. A file that was just made could be lost with
-// its name, so its folder is synced.
+// Opens a file to read and write, made where it isn't there, and locks it.
 fn open_or_make<R: Files<File = File>>(rt: &R, name: &str) -> io::Result<File> {
     let file = File::options()
         .read(true)
         .write(true)
         .create(true)
         .open(rt, name)?;
-    fs::open(rt, folder_of(name))?.sync_all()?;
+    file.try_lock()?;
     Ok(file)
-}
-
-// The folder that a name is in.
-fn folder_of(name: &str) -> Path<'_> {
-    match Path::new(name).parent() {
-        Some(folder) if !folder.as_str().is_empty() => folder,
-        _ => Path::new("."),
-    }
 }
 
 fn length(file: &File) -> io::Result<u64> {

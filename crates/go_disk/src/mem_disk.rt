@@ -1,13 +1,14 @@
 // A disk in memory, for tests: it tells all it holds, and fails exactly where it was told to.
 ghost use Rattle.std.specs.Prelude.{◌≡◌, ◌↔◌, ◌⊎◌, ◌+◌, ◌<◌, ◌≤◌, [], Some, None, Contains, IsSomeAnd, length, take, vec_capacity, IfOk, IsTrue, OnOk};
+ghost use Rattle.std.specs.List.{filter};
 ghost use Rattle.go_disk.specs.Disk.{overwritten, Shows};
-ghost use Rattle.go_disk.specs.MemDisk.{looked, wrote, tore, synced, blank, seen_of, stable_of, IsImageOf, used_by, IsListed, noted, faulted};
+ghost use Rattle.go_disk.specs.MemDisk.{looked, wrote, tore, synced, blank, contents_of, stable_of, IsImageOf, syncs_of, used_by, IsListed, noted, faulted, asked};
+ghost use Rattle.go_disk.specs.Recording.{is_sync};
 
 use crate::call::Call;
-use crate::counts::one_more;
 use crate::image::make_image;
 use crate::span::Span;
-use go_text::Failed;
+use go_text::{Failed, one_more};
 use std::alloc::{AllocError, Global};
 use std::marker::Model;
 
@@ -27,6 +28,7 @@ pub struct MemDisk {
     stop: Option<u64>,
     room: usize,
     faults: u64,
+    blunders: u64,
 }
 
 impl Model for MemDisk {
@@ -74,6 +76,20 @@ impl MemDisk {
         MemDisk::made(alloc, bytes, Vec::new(alloc), Some(after), room)
     }
 
+    /// How often a range was asked for that isn't there.
+    pub fn blunders(&self) -> u64
+        ensures { result ≡ self.now.blunders }
+    {
+        self.blunders
+    }
+
+    /// How many syncs succeeded.
+    pub fn sync_count(&self) -> usize
+        ensures { result ≡ length (syncs_of self.now) }
+    {
+        count_syncs(&self.calls)
+    }
+
     fn made(
         alloc: Global,
         bytes: &[u8],
@@ -97,12 +113,13 @@ impl MemDisk {
             stop,
             room,
             faults: 0,
+            blunders: 0,
         })
     }
 
     // How many bytes a read of the whole gives.
     pub(crate) fn size(&self) -> usize
-        ensures { result ≡ length (seen_of self.now) }
+        ensures { result ≡ length (contents_of self.now) }
     {
         self.bytes.len()
     }
@@ -129,18 +146,26 @@ impl MemDisk {
         Failed
     }
 
-    // Fills `out` with the bytes from a place on, if none of them is past the end.
-    pub(crate) fn copy_out(&self, at: u64, out: &mut [u8]) -> bool
-        ensures found { IsTrue result ↔ (at + length out.old ≤ length (seen_of self.now)) }
-        ensures shown { IsTrue result → Shows (seen_of self.now) at out.new }
+    // Whether so many bytes from a place on are there. A blunder is counted where they aren't.
+    pub(crate) fn ask(&mut self, at: u64, count: usize) -> bool
+        ensures found { IsTrue result ↔ (at + count ≤ length (contents_of self.old)) }
+        ensures counted { self.new ≡ asked self.old (at + count) }
     {
         let len = self.bytes.len();
-        if at > len as u64 || out.len() > len - at as usize {
-            return false;
+        if at <= len as u64 && count <= len - at as usize {
+            return true;
         }
+        self.blunders = one_more(self.blunders);
+        false
+    }
+
+    // Fills `out` with the bytes from a place on.
+    pub(crate) fn copy_out(&self, at: u64, out: &mut [u8])
+        requires { at + length out.old ≤ length (contents_of self.now) }
+        ensures { Shows (contents_of self.now) at out.new }
+    {
         let from = at as usize;
         out.copy_from_slice(&self.bytes[from..from + out.len()]);
-        true
     }
 
     // Records a call that changed nothing.
@@ -154,7 +179,7 @@ impl MemDisk {
     // Records a failed write.
     pub(crate) fn note_tear(&mut self, at: usize, count: usize)
         requires room { used_by self.old.steps + (1 + count) ≤ self.old.room }
-        requires within { at ≤ length (seen_of self.old) }
+        requires within { at ≤ length (contents_of self.old) }
         ensures { self.new ≡ noted self.old (tore at count) }
     {
         self.calls.push(Call::Tore { at, count }).unwrap();
@@ -169,7 +194,7 @@ impl MemDisk {
     // Records a write and does it.
     pub(crate) fn note_write(&mut self, at: usize, bytes: &[u8])
         requires room { used_by self.old.steps + (1 + length bytes.now) ≤ self.old.room }
-        requires within { at ≤ length (seen_of self.old) }
+        requires within { at ≤ length (contents_of self.old) }
         ensures { self.new ≡ noted self.old (wrote at bytes.now) }
     {
         let count = bytes.len();
@@ -201,7 +226,7 @@ impl MemDisk {
     pub fn image(&self, pick: u64, out: &mut Vec<u8>) -> Result<(), AllocError>
         ensures image { OnOk result (IsImageOf self.now out.new.items) }
         ensures base { OnOk result (pick ≡ 0 → out.new.items ≡ stable_of self.now) }
-        ensures seen { OnOk result (pick ≡ 1 → out.new.items ≡ seen_of self.now) }
+        ensures contents { OnOk result (pick ≡ 1 → out.new.items ≡ contents_of self.now) }
     {
         out.clear();
         if pick == 1 {
@@ -214,6 +239,13 @@ impl MemDisk {
         }
         make_image(out, &self.spans, &self.bytes, pick)
     }
+}
+
+// How many of the recorded calls are syncs that succeeded.
+fn count_syncs(calls: &[Call]) -> usize
+    ensures { result ≡ length (filter is_sync calls.now) }
+{
+    calls.iter().filter(|call| call.is_sync()).count()
 }
 
 // Whether a number is among those that are to fail.

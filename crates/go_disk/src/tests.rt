@@ -4,6 +4,7 @@ use super::*;
 use go_text::Text;
 use std::alloc::Global;
 use std::fs;
+use std::os::unix::fs::symlink;
 use std::test::Fail;
 
 // What a read of five bytes from a place on gives, or question marks where it fails.
@@ -146,8 +147,35 @@ fn failed_write_may_tear_and_failed_sync_keeps_the_base(rt: HostRuntime) -> Resu
 }
 
 #[test]
+fn syncs_and_blunders_are_counted(rt: HostRuntime) -> Result<(), Fail> {
+    let mut disk = MemDisk::failing(rt.alloc(), b"abcde", &[6], 12)?;
+    assert_eq!(rt; five_from(&mut disk, 0), *b"abcde");
+    assert!(rt; writes(&mut disk, 5, "f") && syncs(&mut disk));
+    assert_eq!(rt; (disk.sync_count(), disk.blunders()), (1, 0));
+    assert_eq!(rt; five_from(&mut disk, 2), *b"?????");
+    assert_eq!(rt; (disk.sync_count(), disk.blunders()), (1, 1));
+    assert!(rt; !writes(&mut disk, 7, ""));
+    assert_eq!(rt; (disk.sync_count(), disk.blunders()), (1, 2));
+    assert!(rt;
+        syncs(&mut disk) && !syncs(&mut disk),
+        "the call of number 6"
+    );
+    assert_eq!(rt; (disk.sync_count(), disk.blunders()), (2, 2));
+    assert!(rt; !writes(&mut disk, 6, "ghijk"), "over the room");
+    assert_eq!(rt; (disk.sync_count(), disk.blunders()), (2, 2));
+    assert!(rt; !writes(&mut disk, 7, "hijkl"), "over the room");
+    assert_eq!(rt; (disk.sync_count(), disk.blunders()), (2, 3));
+    Ok(())
+}
+
+// The disk of the real file of this name.
+fn file<'a>(rt: &'a HostRuntime, name: &str) -> Result<FileDisk<'a, HostRuntime>, Fail> {
+    Ok(FileDisk::named(rt, Text::of(rt.alloc(), name)?))
+}
+
+#[test]
 fn file_is_made_written_and_read(rt: HostRuntime) -> Result<(), Fail> {
-    let mut disk = FileDisk::named(&rt, Text::of(rt.alloc(), "file.log")?);
+    let mut disk = file(&rt, "file.log")?;
     assert_eq!(rt; length(&mut disk), Some(0));
     assert!(rt; !writes(&mut disk, 1, "x"));
     assert!(rt; writes(&mut disk, 0, "hello"));
@@ -156,17 +184,71 @@ fn file_is_made_written_and_read(rt: HostRuntime) -> Result<(), Fail> {
     assert_eq!(rt; length(&mut disk), Some(11));
     assert_eq!(rt; five_from(&mut disk, 6), *b"world");
     assert_eq!(rt; five_from(&mut disk, 7), *b"?????");
-    let mut again = FileDisk::named(&rt, Text::of(rt.alloc(), "./file.log")?);
+    drop(disk);
+    let mut again = file(&rt, "./file.log")?;
     assert_eq!(rt; five_from(&mut again, 0), *b"Jello");
     fs::remove_file(&rt, "file.log")?;
     Ok(())
 }
 
 #[test]
+fn second_disk_on_a_file_fails_while_the_first_lives(rt: HostRuntime) -> Result<(), Fail> {
+    let mut first = file(&rt, "file.log")?;
+    assert!(rt; writes(&mut first, 0, "first"));
+    let mut second = file(&rt, "./file.log")?;
+    assert_eq!(rt; length(&mut second), None);
+    assert!(rt; !writes(&mut second, 0, "other") && !syncs(&mut second));
+    assert_eq!(rt; five_from(&mut second, 0), *b"?????");
+    assert_eq!(rt; five_from(&mut first, 0), *b"first");
+    drop(first);
+    assert_eq!(rt; five_from(&mut second, 0), *b"first");
+    assert!(rt; writes(&mut second, 5, "!") && syncs(&mut second));
+    fs::remove_file(&rt, "file.log")?;
+    Ok(())
+}
+
+#[test]
+fn file_of_a_dangling_link_is_made_where_it_points(rt: HostRuntime) -> Result<(), Fail> {
+    fs::create_dir(&rt, "far")?;
+    symlink(&rt, "far/file.log", "near.log")?;
+    let mut disk = file(&rt, "near.log")?;
+    assert!(rt; writes(&mut disk, 0, "there") && syncs(&mut disk));
+    drop(disk);
+    let mut made = file(&rt, "far/file.log")?;
+    assert_eq!(rt; five_from(&mut made, 0), *b"there");
+    let mut linked = file(&rt, "near.log")?;
+    assert_eq!(rt; length(&mut linked), None, "the same file is locked");
+    fs::remove_file(&rt, "near.log")?;
+    fs::remove_dir_all(&rt, "far")?;
+    Ok(())
+}
+
+#[test]
+fn after_a_failed_sync_each_call_fails_and_writes_nothing(rt: HostRuntime) -> Result<(), Fail> {
+    let mut disk = file(&rt, "file.log")?;
+    assert!(rt; writes(&mut disk, 0, "hello") && syncs(&mut disk));
+    disk.lose();
+    assert_eq!(rt; length(&mut disk), None);
+    assert_eq!(rt; five_from(&mut disk, 0), *b"?????");
+    assert!(rt; !writes(&mut disk, 0, "other") && !syncs(&mut disk));
+    assert!(rt; !writes(&mut disk, 5, "more") && !syncs(&mut disk));
+    let mut other = file(&rt, "file.log")?;
+    assert_eq!(rt; length(&mut other), None, "the lock is held");
+    drop(disk);
+    assert_eq!(rt; length(&mut other), Some(5));
+    assert_eq!(rt; five_from(&mut other, 0), *b"hello");
+    fs::remove_file(&rt, "file.log")?;
+    Ok(())
+}
+
+#[test]
 fn file_that_cannot_be_opened_is_a_fault(rt: HostRuntime) -> Result<(), Fail> {
-    let mut disk = FileDisk::named(&rt, Text::of(rt.alloc(), "absent/file.log")?);
+    let mut disk = file(&rt, "absent/file.log")?;
     assert_eq!(rt; length(&mut disk), None);
     assert_eq!(rt; five_from(&mut disk, 0), *b"?????");
     assert!(rt; !writes(&mut disk, 0, "x") && !syncs(&mut disk));
+    fs::create_dir(&rt, "absent")?;
+    assert_eq!(rt; length(&mut disk), Some(0), "a later call opens it");
+    fs::remove_dir_all(&rt, "absent")?;
     Ok(())
 }
