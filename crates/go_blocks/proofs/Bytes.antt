@@ -1,5 +1,6 @@
 -- Numbers and words as bytes, and what stands behind them.
-use Rattle.std.proofs.Common.{◌≡◌, ℕ, ◌+◌, ◌*◌, ◌^◌, ◌<◌, ◌≤◌, List, [], ◌∷◌, ◌++◌, length, get_or, take, drop, All, refl, sym, ap, ◌∙◌, append_assoc, arith, inl, inr}
+use Rattle.std.proofs.Common.{◌≡◌, ℕ, ◌+◌, ◌*◌, ◌^◌, ◌<◌, ◌≤◌, List, [], ◌∷◌, ◌++◌, length, get_or, take, drop, All, refl, sym, ap, ◌∙◌, append_assoc, arith}
+use Rattle.std.proofs.Common.{inl, inr}
 use Rattle.std.specs.List.{flat_map}
 use Rattle.std.specs.Int.{w32, w64, from_le_bytes, to_le_bytes}
 use Rattle.std.proofs.lemmas.Bool.{cases_lt}
@@ -10,7 +11,7 @@ use Rattle.go_word.specs.declared.edge.Edge.{Edge}
 use Rattle.go_word.specs.Log.{IsWithin}
 use Rattle.go_word.specs.Word.{IsStorable, IsPlain, plain_word, decode}
 use Rattle.go_word.proofs.WordLaws.{decode-plain_word, plain_word-lt, plain_word-decode, IsStorable-IsWithin}
-use Rattle.go_blocks.specs.declared.layout.TheConstants.{VERTEX_LIMIT}
+use Rattle.go_word.specs.declared.edge.TheConstants.{VERTEX_LIMIT}
 use Rattle.go_blocks.specs.File.{word_bytes}
 
 -- each number is that of a byte
@@ -60,7 +61,8 @@ pub from_word_bytes : (e : Edge) → IsStorable e → from_le_bytes w64 (word_by
 from_word_bytes e storable = from_le_bytes-to_le_bytes_8 (plain_word e) (plain_word-lt e storable)
 
 -- eight bytes that are a plain word are the word of the entry that is read
-pub word_bytes-decode : (v w : ℕ) (bytes : List ℕ) → length bytes ≡ 8 → AreBytes bytes → w ≡ from_le_bytes w64 bytes → w < 2 ^ 64 → IsPlain v w → word_bytes (decode w) ≡ bytes
+pub word_bytes-decode : (v w : ℕ) (bytes : List ℕ) → length bytes ≡ 8 → AreBytes bytes → w ≡ from_le_bytes w64 bytes → w < 2 ^ 64 → IsPlain v w
+    → word_bytes (decode w) ≡ bytes
 word_bytes-decode v w bytes len fits is small plain =
     ap (to_le_bytes w64) (plain_word-decode v w small plain) ∙ le_bytes_8 bytes w len fits is
 
@@ -83,6 +85,7 @@ same_words v (e ∷ es) [] r s few within within' len same = absurd (omega arith
 same_words v (e ∷ es) (f ∷ fs) r s few within within' len same =
     let apart = same_parts (word_bytes e) (flat_map word_bytes es ++ r) (word_bytes f) (flat_map word_bytes fs ++ s) refl
     (sym (append_assoc (word_bytes e) (flat_map word_bytes es) r) ∙ same ∙ append_assoc (word_bytes f) (flat_map word_bytes fs) s) in
-    let head : e ≡ f = same_word e f (storable_within v e few (All-head (IsWithin v) e es within)) (storable_within v f few (All-head (IsWithin v) f fs within')) apart.0 in
+    let head : e ≡ f =
+    same_word e f (storable_within v e few (All-head (IsWithin v) e es within)) (storable_within v f few (All-head (IsWithin v) f fs within')) apart.0 in
     let rest = same_words v es fs r s few (All-tail (IsWithin v) e es within) (All-tail (IsWithin v) f fs within') (omega arith) apart.1 in
     (rw (head, rest.0) refl, rest.1)

@@ -1,5 +1,6 @@
 -- Fields of a header and the count of a block: what is read was written so, and what was written is read.
-use Rattle.std.proofs.Common.{◌≡◌, ℕ, suc, ◌+◌, ◌*◌, ◌^◌, ◌<◌, ◌≤◌, Bool, true, false, cond, ltb, Option, Some, None, Result, Ok, Err, List, [], ◌∷◌, ◌++◌, length, get_or, take, drop, refl, sym, ap, subst, ◌∙◌, append_assoc, arith}
+use Rattle.std.proofs.Common.{◌≡◌, ℕ, suc, ◌+◌, ◌*◌, ◌^◌, ◌<◌, ◌≤◌, Bool, true, false, cond, ltb, Option, Some, None, Result, Ok, Err, List, [], ◌∷◌, ◌++◌}
+use Rattle.std.proofs.Common.{length, get_or, take, drop, refl, sym, ap, subst, ◌∙◌, append_assoc, arith}
 use Rattle.std.specs.Prelude.{◌&&◌, not, nat_lt, nat_le, ◌==◌, position}
 use Rattle.std.specs.List.{flat_map, zip, position_or_len}
 use Rattle.std.specs.Int.{w16, w32, from_le_bytes, to_le_bytes}
@@ -9,7 +10,8 @@ use Rattle.std.proofs.lemmas.List.{take_at, take-append-drop, length-append, len
 use Rattle.std.proofs.lemmas.Nat.{le_bytes_2, le_bytes_4, from_le_bytes-to_le_bytes_4}
 use Rattle.go_word.specs.declared.edge.Edge.{Edge}
 use Rattle.go_blocks.specs.declared.fault.Bad.{Bad}
-use Rattle.go_blocks.specs.declared.layout.TheConstants.{CLOSED, MAGIC, VERSION, VERTEX_LIMIT, COUNT_LIMIT}
+use Rattle.go_word.specs.declared.edge.TheConstants.{VERTEX_LIMIT}
+use Rattle.go_blocks.specs.declared.layout.TheConstants.{CLOSED, MAGIC, VERSION, COUNT_LIMIT}
 use Rattle.go_blocks.specs.File.{IsOpen, IsVertexCount, IsCount, word_bytes, body_of, header_bytes}
 use Rattle.go_blocks.specs.Faults.{◌>>=◌, judged, differs, gate_at, letters_at, version_at, vertices_at, first_gate_at, header_at, count_at}
 use Rattle.go_blocks.proofs.Bytes.{AreBytes, AreBytes-take, AreBytes-drop, length-words}
@@ -105,8 +107,10 @@ version_takes bytes rest fits e =
     let long : 2 ≤ length bytes = ltb-false _ _ p.0 in
     let q = held (from_le_bytes w16 (take 2 bytes) == VERSION) _ (done (drop 2 bytes)) rest p.1 in
     let is : from_le_bytes w16 (take 2 bytes) ≡ VERSION = eqb-true _ _ q.0 in
-    let same : to_le_bytes w16 VERSION ≡ take 2 bytes = le_bytes_2 (take 2 bytes) VERSION (omega (arith, length-take 2 bytes)) (AreBytes-take 2 bytes fits) (sym is) in
-    sym (take-append-drop 2 bytes) ∙ ap (λ (t : List ℕ). t ++ drop 2 bytes) (sym same) ∙ ap (λ (t : List ℕ). to_le_bytes w16 VERSION ++ t) (ok_is (drop 2 bytes) rest q.1)
+    let same : to_le_bytes w16 VERSION ≡ take 2 bytes =
+    le_bytes_2 (take 2 bytes) VERSION (omega (arith, length-take 2 bytes)) (AreBytes-take 2 bytes fits) (sym is) in
+    sym (take-append-drop 2 bytes) ∙ ap (λ (t : List ℕ). t ++ drop 2 bytes) (sym same)
+    ∙ ap (λ (t : List ℕ). to_le_bytes w16 VERSION ++ t) (ok_is (drop 2 bytes) rest q.1)
 
 -- the version is read
 version_again : (rest : List ℕ) → version_at (to_le_bytes w16 VERSION ++ rest) ≡ Ok rest
@@ -126,7 +130,8 @@ in_range n limit some few = grind (arith, nat_tests)
 -- four bytes and the number that they are
 four : (bytes : List ℕ) → AreBytes bytes → 4 ≤ length bytes → bytes ≡ to_le_bytes w32 (from_le_bytes w32 (take 4 bytes)) ++ drop 4 bytes
 four bytes fits long =
-    let same : to_le_bytes w32 (from_le_bytes w32 (take 4 bytes)) ≡ take 4 bytes = le_bytes_4 (take 4 bytes) _ (omega (arith, length-take 4 bytes)) (AreBytes-take 4 bytes fits) refl in
+    let same : to_le_bytes w32 (from_le_bytes w32 (take 4 bytes)) ≡ take 4 bytes =
+    le_bytes_4 (take 4 bytes) _ (omega (arith, length-take 4 bytes)) (AreBytes-take 4 bytes fits) refl in
     sym (take-append-drop 4 bytes) ∙ ap (λ (t : List ℕ). t ++ drop 4 bytes) (sym same)
 
 -- a number of four bytes is read again
@@ -134,7 +139,8 @@ number_again : (n : ℕ) (rest : List ℕ) → n < 2 ^ 32 → from_le_bytes w32 
 number_again n rest small = ap (from_le_bytes w32) (take_at (to_le_bytes w32 n) rest 4 refl) ∙ from_le_bytes-to_le_bytes_4 n small
 
 -- the number of vertices
-vertices_takes : (bytes : List ℕ) (found : ℕ × List ℕ) → AreBytes bytes → vertices_at bytes ≡ Ok found → (bytes ≡ to_le_bytes w32 found.0 ++ found.1) × IsVertexCount found.0
+vertices_takes : (bytes : List ℕ) (found : ℕ × List ℕ) → AreBytes bytes → vertices_at bytes ≡ Ok found
+    → (bytes ≡ to_le_bytes w32 found.0 ++ found.1) × IsVertexCount found.0
 unfolding vertices_at
 vertices_takes bytes found fits e =
     let v : ℕ = from_le_bytes w32 (take 4 bytes) in
@@ -142,7 +148,8 @@ vertices_takes bytes found fits e =
     let long : 4 ≤ length bytes = ltb-false _ _ p.0 in
     let q = held (nat_lt 0 v && nat_le v VERTEX_LIMIT) _ (done (v, drop 4 bytes)) found p.1 in
     let r = ranged v VERTEX_LIMIT q.0 in
-    subst (λ (x : ℕ × List ℕ). (bytes ≡ to_le_bytes w32 x.0 ++ x.1) × IsVertexCount x.0) (ok_is (v, drop 4 bytes) found q.1) (four bytes fits long, record { some = r.0; few = r.1 })
+    subst (λ (x : ℕ × List ℕ). (bytes ≡ to_le_bytes w32 x.0 ++ x.1) × IsVertexCount x.0) (ok_is (v, drop 4 bytes) found q.1)
+    (four bytes fits long, record { some = r.0; few = r.1 })
 
 -- a number of vertices in range is read
 vertices_again : (v : ℕ) (rest : List ℕ) → IsVertexCount v → vertices_at (to_le_bytes w32 v ++ rest) ≡ Ok (v, rest)
@@ -205,12 +212,14 @@ header_takes bytes read fits e =
     let vertices = vertices_takes c.0 d.0 fits3 c.2 in
     let first = first_gate_takes d.0 read d.2 in
     let whole : bytes ≡ header_bytes gate.0 d.0.0 ++ d.0.1 =
-    gate.1 ∙ ap (λ (t : List ℕ). gate.0 ∷ t) (letters ∙ ap (λ (t : List ℕ). MAGIC ++ t) (version ∙ ap (λ (t : List ℕ). to_le_bytes w16 VERSION ++ t) vertices.0)) in
+    gate.1 ∙ ap (λ (t : List ℕ). gate.0 ∷ t) (letters
+    ∙ ap (λ (t : List ℕ). MAGIC ++ t) (version ∙ ap (λ (t : List ℕ). to_le_bytes w16 VERSION ++ t) vertices.0)) in
     subst (λ (x : ℕ × List ℕ). TakesHeader bytes x.0 x.1) first.0
     (record { gate = gate.0; is_open = record { open_gate = gate.2 }; vertices = vertices.1; parts = whole; gate_here = first.1 })
 
 -- the count of a body that has a byte behind it is read
-pub count_again : (gate : ℕ) (es : List Edge) (x : ℕ) (rest : List ℕ) → IsCount (length es) → count_at gate (body_of es ++ x ∷ rest) ≡ Ok (length es, flat_map word_bytes es ++ x ∷ rest)
+pub count_again : (gate : ℕ) (es : List Edge) (x : ℕ) (rest : List ℕ) → IsCount (length es)
+    → count_at gate (body_of es ++ x ∷ rest) ≡ Ok (length es, flat_map word_bytes es ++ x ∷ rest)
 unfolding count_at
 count_again gate es x rest count =
     let n : ℕ = length es in
@@ -233,13 +242,15 @@ pub count_takes : (gate : ℕ) (rest : List ℕ) (found : ℕ × List ℕ) → A
 unfolding count_at
 count_takes gate rest found fits e =
     let n : ℕ = from_le_bytes w32 (take 4 rest) in
-    let p = passed (ltb (length rest) 4) _ (cond (nat_lt 0 n && nat_le n COUNT_LIMIT) (cond (nat_le (length (drop 4 rest)) (8 * n)) _ (done (n, drop 4 rest))) _) found e in
+    let p = passed (ltb (length rest) 4) _
+    (cond (nat_lt 0 n && nat_le n COUNT_LIMIT) (cond (nat_le (length (drop 4 rest)) (8 * n)) _ (done (n, drop 4 rest))) _) found e in
     let long : 4 ≤ length rest = ltb-false _ _ p.0 in
     let q = held (nat_lt 0 n && nat_le n COUNT_LIMIT) _ (cond (nat_le (length (drop 4 rest)) (8 * n)) _ (done (n, drop 4 rest))) found p.1 in
     let r = ranged n COUNT_LIMIT q.0 in
     let s = passed (nat_le (length (drop 4 rest)) (8 * n)) _ (done (n, drop 4 rest)) found q.1 in
     let room : 8 * n < length (drop 4 rest) = grind (arith, nat_tests, s.0) in
-    subst (λ (x : ℕ × List ℕ). TakesCount rest x.0 x.1) (ok_is (n, drop 4 rest) found s.1) (record { count = record { some = r.0; few = r.1 }; parts = four rest fits long; room = room })
+    subst (λ (x : ℕ × List ℕ). TakesCount rest x.0 x.1) (ok_is (n, drop 4 rest) found s.1)
+    (record { count = record { some = r.0; few = r.1 }; parts = four rest fits long; room = room })
 
 -- the bytes behind a count
 pub TakesCount-length : (rest : List ℕ) (n : ℕ) (behind : List ℕ) → TakesCount rest n behind → length rest ≡ 4 + length behind

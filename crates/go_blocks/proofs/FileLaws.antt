@@ -7,8 +7,10 @@ use Rattle.std.proofs.lemmas.List.Elements.{All-nil, All-head, All-tail, All-pus
 use Rattle.std.proofs.lemmas.List.Concat.{flat_map-append}
 use Rattle.go_word.specs.declared.edge.Edge.{Edge}
 use Rattle.go_word.specs.Log.{IsWithin}
-use Rattle.go_blocks.specs.declared.layout.TheConstants.{CLOSED, MAGIC, VERSION, VERTEX_LIMIT}
-use Rattle.go_blocks.specs.File.{IsOpen, IsVertexCount, IsCount, Block, IsBlock, word_bytes, body_of, block_bytes, header_bytes, entries_of, HasBlocks, IsFront, IsClosedBy, File}
+use Rattle.go_word.specs.declared.edge.TheConstants.{VERTEX_LIMIT}
+use Rattle.go_blocks.specs.declared.layout.TheConstants.{CLOSED, MAGIC, VERSION}
+use Rattle.go_blocks.specs.File.{IsOpen, IsVertexCount, IsCount, Block, IsBlock, word_bytes, body_of, block_bytes, header_bytes, entries_of, HasBlocks}
+use Rattle.go_blocks.specs.File.{IsFront, IsClosedBy, File}
 use Rattle.go_blocks.proofs.Bytes.{same_parts, same_cells, same_number, length-words, same_words}
 
 -- a body, taken apart
@@ -20,7 +22,8 @@ pub length-body_of : (es : List Edge) → length (body_of es) ≡ 4 + 8 * length
 length-body_of es = omega (arith, length-append (to_le_bytes w32 (length es)) (flat_map word_bytes es), length-words es)
 
 -- bodies that begin the same bytes are one
-pub same_body : (v : ℕ) (es fs : List Edge) (r s : List ℕ) → v ≤ VERTEX_LIMIT → IsCount (length es) → IsCount (length fs) → All (IsWithin v) es → All (IsWithin v) fs →
+pub same_body : (v : ℕ) (es fs : List Edge) (r s : List ℕ) → v ≤ VERTEX_LIMIT → IsCount (length es) → IsCount (length fs) → All (IsWithin v) es
+    → All (IsWithin v) fs →
     body_of es ++ r ≡ body_of fs ++ s → (es ≡ fs) × (r ≡ s)
 same_body v es fs r s few count count' within within' same =
     let apart = same_parts (to_le_bytes w32 (length es)) (flat_map word_bytes es ++ r) (to_le_bytes w32 (length fs)) (flat_map word_bytes fs ++ s) refl
@@ -56,11 +59,14 @@ starts v b [] x rest bytes block none same = none b x rest block (same ∙ ap (�
 starts v b (m ∷ mid) x rest bytes block none same = none b m (mid ++ x ∷ rest) block (same ∙ append_assoc (block_bytes b) (m ∷ mid) (x ∷ rest))
 
 -- blocks that lead to no further block are the same blocks
-pub same_blocks : (v : ℕ) (bs cs : List Block) (x y : ℕ) (r s : List ℕ) → v ≤ VERTEX_LIMIT → All (IsBlock v) bs → All (IsBlock v) cs → NoBlock v (x ∷ r) → NoBlock v (y ∷ s) →
+pub same_blocks : (v : ℕ) (bs cs : List Block) (x y : ℕ) (r s : List ℕ) → v ≤ VERTEX_LIMIT → All (IsBlock v) bs → All (IsBlock v) cs → NoBlock v (x ∷ r)
+    → NoBlock v (y ∷ s) →
     flat_map block_bytes bs ++ x ∷ r ≡ flat_map block_bytes cs ++ y ∷ s → (bs ≡ cs) × (x ∷ r ≡ y ∷ s)
 same_blocks v [] [] x y r s few each each' last last' same = (refl, same)
-same_blocks v [] (c ∷ cs) x y r s few each each' last last' same = absurd (starts v c (flat_map block_bytes cs) y s (x ∷ r) (All-head (IsBlock v) c cs each') last same)
-same_blocks v (b ∷ bs) [] x y r s few each each' last last' same = absurd (starts v b (flat_map block_bytes bs) x r (y ∷ s) (All-head (IsBlock v) b bs each) last' (sym same))
+same_blocks v [] (c ∷ cs) x y r s few each each' last last' same =
+    absurd (starts v c (flat_map block_bytes cs) y s (x ∷ r) (All-head (IsBlock v) c cs each') last same)
+same_blocks v (b ∷ bs) [] x y r s few each each' last last' same =
+    absurd (starts v b (flat_map block_bytes bs) x r (y ∷ s) (All-head (IsBlock v) b bs each) last' (sym same))
 same_blocks v (b ∷ bs) (c ∷ cs) x y r s few each each' last last' same =
     let block : IsBlock v b = All-head (IsBlock v) b bs each in
     let block' : IsBlock v c = All-head (IsBlock v) c cs each' in
@@ -82,11 +88,13 @@ same_header g h v w r s few few' same =
     (same_number v w (omega arith) (omega arith) apart.0, apart.1)
 
 -- the blocks of bytes that have no further one are fixed, and so is what stands behind them
-pub same_fronts : (v w : ℕ) (bs cs : List Block) (front front' : List ℕ) (x y : ℕ) (r s : List ℕ) → HasBlocks v bs front → HasBlocks w cs front' → NoBlock v (x ∷ r) → NoBlock w (y ∷ s) →
+pub same_fronts : (v w : ℕ) (bs cs : List Block) (front front' : List ℕ) (x y : ℕ) (r s : List ℕ) → HasBlocks v bs front → HasBlocks w cs front'
+    → NoBlock v (x ∷ r) → NoBlock w (y ∷ s) →
     front ++ x ∷ r ≡ front' ++ y ∷ s → (v ≡ w) × (bs ≡ cs) × (x ∷ r ≡ y ∷ s)
 same_fronts v w bs cs front front' x y r s has has' last last' same =
     let apart = same_header has.gate has'.gate v w (flat_map block_bytes bs ++ x ∷ r) (flat_map block_bytes cs ++ y ∷ s) has.vertices.few has'.vertices.few
-    (sym (append_assoc (header_bytes has.gate v) (flat_map block_bytes bs) (x ∷ r)) ∙ ap (λ (t : List ℕ). t ++ x ∷ r) (sym has.bytes) ∙ same ∙ ap (λ (t : List ℕ). t ++ y ∷ s) has'.bytes ∙ append_assoc (header_bytes has'.gate w) (flat_map block_bytes cs) (y ∷ s)) in
+    (sym (append_assoc (header_bytes has.gate v) (flat_map block_bytes bs) (x ∷ r)) ∙ ap (λ (t : List ℕ). t ++ x ∷ r) (sym has.bytes) ∙ same
+    ∙ ap (λ (t : List ℕ). t ++ y ∷ s) has'.bytes ∙ append_assoc (header_bytes has'.gate w) (flat_map block_bytes cs) (y ∷ s)) in
     let each' : All (IsBlock v) cs = subst (λ (u : ℕ). All (IsBlock u) cs) (sym apart.0) has'.each in
     let none' : NoBlock v (y ∷ s) = subst (λ (u : ℕ). NoBlock u (y ∷ s)) (sym apart.0) last' in
     let blocks = same_blocks v bs cs x y r s has.vertices.few has.each each' last none' apart.1 in
@@ -96,7 +104,8 @@ same_fronts v w bs cs front front' x y r s has has' last last' same =
 pub same_file : (v w : ℕ) (log log' : List Edge) (bytes : List ℕ) → File v log bytes → File w log' bytes → (v ≡ w) × (log ≡ log')
 same_file v w log log' bytes file file' =
     let same = same_fronts v w file.is_front.blocks file'.is_front.blocks file.front file'.front CLOSED CLOSED file.closed.rest file'.closed.rest
-    file.is_front.has_blocks file'.is_front.has_blocks (NoBlock-closed v file.closed.rest) (NoBlock-closed w file'.closed.rest) (sym file.closed.parts ∙ file'.closed.parts) in
+    file.is_front.has_blocks file'.is_front.has_blocks (NoBlock-closed v file.closed.rest) (NoBlock-closed w file'.closed.rest) (sym file.closed.parts
+    ∙ file'.closed.parts) in
     (same.0, file.is_front.entries ∙ ap entries_of same.1 ∙ sym file'.is_front.entries)
 
 -- a header with an open gate is the front of the empty log
@@ -108,14 +117,16 @@ IsFront-header gate v is_open vertices = record {
 }
 
 -- blocks go on by a block
-pub HasBlocks-more : (v : ℕ) (bs : List Block) (front : List ℕ) (b : Block) → HasBlocks v bs front → IsBlock v b → HasBlocks v (bs ++ b ∷ []) (front ++ block_bytes b)
+pub HasBlocks-more : (v : ℕ) (bs : List Block) (front : List ℕ) (b : Block) → HasBlocks v bs front → IsBlock v b
+    → HasBlocks v (bs ++ b ∷ []) (front ++ block_bytes b)
 HasBlocks-more v bs front b has block = record {
   gate = has.gate;
   is_open = has.is_open;
   vertices = has.vertices;
   each = All-push (IsBlock v) bs b has.each block;
   bytes = ap (λ (t : List ℕ). t ++ block_bytes b) has.bytes ∙ append_assoc (header_bytes has.gate v) (flat_map block_bytes bs) (block_bytes b)
-      ∙ ap (λ (t : List ℕ). header_bytes has.gate v ++ t) (ap (λ (t : List ℕ). flat_map block_bytes bs ++ t) (sym (append-nil (block_bytes b))) ∙ sym (flat_map-append block_bytes bs (b ∷ [])));
+      ∙ ap (λ (t : List ℕ). header_bytes has.gate v ++ t) (ap (λ (t : List ℕ). flat_map block_bytes bs ++ t) (sym (append-nil (block_bytes b)))
+      ∙ sym (flat_map-append block_bytes bs (b ∷ [])));
 }
 
 -- the entries go on by those of the block
@@ -123,7 +134,8 @@ pub entries_of-more : (bs : List Block) (b : Block) → entries_of (bs ++ b ∷ 
 entries_of-more bs b = flat_map-append (λ c. c.entries) bs (b ∷ []) ∙ ap (λ (t : List Edge). entries_of bs ++ t) (append-nil b.entries)
 
 -- a front goes on by an open gate and a body
-pub IsFront-more : (v : ℕ) (log : List Edge) (front : List ℕ) (gate : ℕ) (es : List Edge) → IsFront v log front → IsOpen gate → IsCount (length es) → All (IsWithin v) es →
+pub IsFront-more : (v : ℕ) (log : List Edge) (front : List ℕ) (gate : ℕ) (es : List Edge) → IsFront v log front → IsOpen gate → IsCount (length es)
+    → All (IsWithin v) es →
     IsFront v (log ++ es) (front ++ gate ∷ body_of es)
 IsFront-more v log front gate es is_front is_open count within =
     let b : Block = record { gate = gate; entries = es } in
@@ -137,10 +149,12 @@ IsFront-more v log front gate es is_front is_open count within =
 pub IsClosedBy-kept : (front bytes new : List ℕ) → IsClosedBy front bytes → take (length front + 1) new ≡ take (length front + 1) bytes → IsClosedBy front new
 IsClosedBy-kept front bytes new closed same =
     let regroup : bytes ≡ (front ++ CLOSED ∷ []) ++ closed.rest = closed.parts ∙ sym (append_assoc front (CLOSED ∷ []) closed.rest) in
-    let kept : take (length front + 1) bytes ≡ front ++ CLOSED ∷ [] = ap (take (length front + 1)) regroup ∙ take_at (front ++ CLOSED ∷ []) closed.rest (length front + 1) (length-append front (CLOSED ∷ [])) in
+    let kept : take (length front + 1) bytes ≡ front ++ CLOSED ∷ [] = ap (take (length front + 1)) regroup
+    ∙ take_at (front ++ CLOSED ∷ []) closed.rest (length front + 1) (length-append front (CLOSED ∷ [])) in
     record {
       rest = drop (length front + 1) new;
-      parts = sym (take-append-drop (length front + 1) new) ∙ ap (λ (t : List ℕ). t ++ drop (length front + 1) new) (same ∙ kept) ∙ append_assoc front (CLOSED ∷ []) (drop (length front + 1) new);
+      parts = sym (take-append-drop (length front + 1) new) ∙ ap (λ (t : List ℕ). t ++ drop (length front + 1) new) (same ∙ kept)
+          ∙ append_assoc front (CLOSED ∷ []) (drop (length front + 1) new);
     }
 
 -- a front with a closed gate behind it is a file, whatever follows

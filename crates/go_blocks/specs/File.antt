@@ -5,7 +5,8 @@ use Rattle.std.specs.Int.{w16, w32, w64, to_le_bytes}
 use Rattle.go_word.specs.declared.edge.Edge.{Edge}
 use Rattle.go_word.specs.Log.{IsWithin}
 use Rattle.go_word.specs.Word.{plain_word}
-use Rattle.go_blocks.specs.declared.layout.TheConstants.{CLOSED, MAGIC, VERSION, VERTEX_LIMIT, COUNT_LIMIT, FIRST_GATE, HEADER_LENGTH}
+use Rattle.go_word.specs.declared.edge.TheConstants.{VERTEX_LIMIT}
+use Rattle.go_blocks.specs.declared.layout.TheConstants.{CLOSED, MAGIC, VERSION, COUNT_LIMIT, FIRST_GATE, HEADER_LENGTH}
 use Rattle.go_blocks.specs.declared.log_file.BlockPlace.{BlockPlace}
 use Rattle.go_blocks.specs.Log.{Log}
 

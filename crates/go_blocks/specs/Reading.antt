@@ -56,9 +56,9 @@ pub record IsUpTo (bytes rest : List ℕ) (v : ℕ) (edges : List Edge) (places 
   pub gate_here : 0 < length rest
 
 -- a file is read with all that it stands for, or the first fault is answered
-abbrev pub Reads : List ℕ → Result Log FileFault → Type 0
-Reads bytes (Ok file) = IsReadOf bytes file
-Reads bytes (Err e) = IfBad (IsFirstFault bytes) e
+abbrev pub ReadsFile : List ℕ → Result Log FileFault → Type 0
+ReadsFile bytes (Ok file) = IsReadOf bytes file
+ReadsFile bytes (Err e) = IfBad (IsFirstFault bytes) e
 
 -- what is answered of the bytes of a file of this log: just that, unless memory ran out
 abbrev pub IsReadAs : ℕ → List Edge → Result Log FileFault → Type 0

@@ -4,6 +4,7 @@ ghost use Rattle.go_blocks.specs.declared.fault.FileFault.TheVariants.{Memory};
 ghost use Rattle.go_blocks.specs.declared.fault.FileFault.TheVariants as faults;
 
 use std::alloc::{AllocError, AllocFailed};
+use thiserror::Error;
 
 /// What is wrong at the first place that offends.
 #[derive(Clone, Copy, Debug, PartialEq, Eq)]
@@ -32,14 +33,16 @@ pub struct Bad {
 }
 
 /// Why a file was not read.
-#[derive(Clone, Copy, Debug, PartialEq, Eq)]
+#[derive(Clone, Copy, Debug, PartialEq, Eq, Error)]
 pub enum FileFault {
     /// The bytes are no log file.
+    #[error("the bytes are no log file")]
     Bad {
         /// The first place that offends.
         bad: Bad,
     },
     /// Memory ran out.
+    #[error("out of memory")]
     Memory,
 }
 

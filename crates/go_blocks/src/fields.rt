@@ -5,9 +5,9 @@ ghost use Rattle.go_blocks.specs.Faults.{differs, gate_at, letters_at, version_a
 ghost use Rattle.go_blocks.specs.Reading.{Shows};
 
 use crate::fault::{Bad, BadKind};
-use crate::layout::{
-    CLOSED, FIRST_GATE, MAGIC, MAGIC_AT, VERSION, VERSION_AT, VERTEX_LIMIT, VERTICES_AT,
-};
+use crate::layout::{CLOSED, FIRST_GATE, MAGIC, MAGIC_AT, VERSION, VERSION_AT, VERTICES_AT};
+use crate::numbers::{number_of_four, number_of_two};
+use go_word::VERTEX_LIMIT;
 
 /// Reads the header, and gives the number of vertices and the bytes from the first gate on.
 #[tactic(auto, unfolding(crate::specs::Faults::header_at, crate::specs::Faults::first_gate_at))]
@@ -78,7 +78,7 @@ fn read_version(bytes: &[u8]) -> Result<&[u8], Bad>
     let Some((version, rest)) = bytes.split_first_chunk::<2>() else {
         return Err(fault(VERSION_AT, BadKind::Short));
     };
-    if u16::from_le_bytes(*version) != VERSION {
+    if number_of_two(version) != VERSION {
         return Err(fault(VERSION_AT, BadKind::Version));
     }
     Ok(rest)
@@ -92,7 +92,7 @@ fn read_vertices(bytes: &[u8]) -> Result<(u32, &[u8]), Bad>
     let Some((vertices, rest)) = bytes.split_first_chunk::<4>() else {
         return Err(fault(VERTICES_AT, BadKind::Short));
     };
-    let vertices = u32::from_le_bytes(*vertices);
+    let vertices = number_of_four(vertices);
     if vertices == 0 || vertices > VERTEX_LIMIT {
         return Err(fault(VERTICES_AT, BadKind::Vertices));
     }

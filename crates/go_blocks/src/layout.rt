@@ -24,9 +24,6 @@ pub const VERSION: u16 = 1;
 /// Where the number of vertices stands.
 pub const VERTICES_AT: u64 = 11;
 
-/// A file has at most so many vertices.
-pub const VERTEX_LIMIT: u32 = 1 << 20;
-
 /// Where the gate of the first block stands.
 pub const FIRST_GATE: u64 = 15;
 

@@ -18,12 +18,13 @@ mod laws;
 mod layout;
 mod log_file;
 mod making;
+mod numbers;
 mod reader;
 mod writer;
 
 pub use fault::{Bad, BadKind, FileFault};
 pub use laws::file_laws;
-pub use layout::{CLOSED, COUNT_LIMIT, FIRST_GATE, HEADER_LENGTH, OPEN, VERTEX_LIMIT, WORDS_AT};
+pub use layout::{CLOSED, COUNT_LIMIT, FIRST_GATE, HEADER_LENGTH, OPEN, WORDS_AT};
 pub use log_file::{BlockPlace, LogFile};
 pub use making::{header, unmade};
 pub use reader::read_file;

@@ -3,6 +3,7 @@ ghost use Rattle.std.specs.Prelude.{◌≡◌, ◌↔◌, ◌++◌, [], ◌∷�
 ghost use Rattle.go_blocks.specs.File.{IsVertexCount, IsFront, IsUnmade, header_bytes};
 
 use crate::layout::{CLOSED, HEADER_LENGTH, MAGIC, OPEN, VERSION};
+use crate::numbers::{four_bytes, two_bytes};
 
 /// Gives the bytes of an empty file of `v` vertices: an open header, and the closed gate of the first
 /// block.
@@ -11,8 +12,8 @@ pub fn header(v: u32) -> [u8; HEADER_LENGTH]
     ensures exact { result ≡ header_bytes OPEN v ++ CLOSED ∷ [] }
     ensures empty { IsFront v [] (header_bytes OPEN v) }
 {
-    let version = VERSION.to_le_bytes();
-    let vertices = v.to_le_bytes();
+    let version = two_bytes(VERSION);
+    let vertices = four_bytes(v);
     [
         OPEN,
         MAGIC[0],

@@ -1,10 +1,10 @@
 // Reading a file: its header, and then block after block up to the first closed gate.
-ghost use Rattle.std.specs.Prelude.{◌≡◌, ◌<◌, ◌≤◌, ◌+◌, ◌*◌, ◌%◌, ◌^◌, [], List, ℕ, length, IfOk, MatchResult};
+ghost use Rattle.std.specs.Prelude.{◌≡◌, ◌<◌, ◌≤◌, ◌+◌, ◌*◌, ◌%◌, ◌^◌, [], List, ℕ, length, IfOk, IfSome, MatchResult};
 ghost use Rattle.go_word.specs.declared.edge.Edge.{Edge};
 ghost use Rattle.go_blocks.specs.declared.fault.Bad.{Bad};
 ghost use Rattle.go_blocks.specs.File.{File};
 ghost use Rattle.go_blocks.specs.Faults.{IsBlockFault, IsFirstFault, count_at};
-ghost use Rattle.go_blocks.specs.Reading.{Shows, IfBad, ReadsWords, TakesBlock, IsUpTo, Reads, IsReadAs, IsRefusedWith};
+ghost use Rattle.go_blocks.specs.Reading.{Shows, IfBad, ReadsWords, TakesBlock, IsUpTo, ReadsFile, IsReadAs, IsRefusedWith};
 
 use crate::fault::{Bad, BadKind, FileFault};
 use crate::fields::read_header;
@@ -12,16 +12,17 @@ use crate::layout::{
     CLOSED, COUNT_AT, COUNT_LIMIT, FIRST_GATE, GATE_LENGTH, WORD_LENGTH, WORDS_AT,
 };
 use crate::log_file::{BlockPlace, LogFile};
+use crate::numbers::{number_of_eight, number_of_four};
 use go_word::{Edge, read_plain};
 use std::alloc::Global;
 
 /// Reads the bytes of a file.
 ///
-/// They are gone through once. Beside them it takes room for an entry to each 8 bytes, 12 bytes
-/// each, and 16 bytes a block.
+/// They are gone through once, and the counts of the blocks before that. Beside them it takes memory for the entries
+/// and the places of the blocks that are there, however long the bytes are.
 pub fn read_file(alloc: Global, bytes: &[u8]) -> Result<LogFile, FileFault>
     // What is read is what the bytes stand for; a fault is the first one.
-    ensures read { Reads bytes.now result }
+    ensures read { ReadsFile bytes.now result }
     ensures file { IfOk result (λ file. File file.vertices file.edges bytes.now) }
 
     // Each file is read, and each fault is told, unless memory runs out.
@@ -42,10 +43,11 @@ fn read_blocks(
     behind: &[u8],
 ) -> Result<LogFile, FileFault>
     requires { IsUpTo bytes.now behind.now vertices [] [] FIRST_GATE }
-    ensures { Reads bytes.now result }
+    ensures { ReadsFile bytes.now result }
 {
-    let mut edges = Vec::with_capacity(alloc, bytes.len() / WORD_LENGTH)?;
-    let mut places = Vec::new(alloc);
+    let extent = extent_of(behind);
+    let mut edges = Vec::with_capacity(alloc, extent.entries)?;
+    let mut places = Vec::with_capacity(alloc, extent.blocks)?;
     let mut rest = behind;
     let mut gate = FIRST_GATE;
     while rest[0] != CLOSED {
@@ -56,6 +58,47 @@ fn read_blocks(
         gate = (bytes.len() - rest.len()) as u64;
     }
     Ok(LogFile::new(vertices, edges, places, gate))
+}
+
+// How many blocks there are, and how many entries they have.
+#[derive(Clone, Copy)]
+struct Extent {
+    blocks: usize,
+    entries: usize,
+}
+
+// How much the blocks from a gate on come to, as far as their counts can be read.
+fn extent_of(bytes: &[u8]) -> Extent
+    ensures { 8 * result.entries + result.blocks ≤ length bytes.now }
+{
+    let mut extent = Extent {
+        blocks: 0,
+        entries: 0,
+    };
+    let mut rest = bytes;
+    while let Some((count, after)) = pass_block(rest) {
+        extent.blocks += 1;
+        extent.entries += count;
+        rest = after;
+    }
+    extent
+}
+
+// The count of the block behind an open gate, and the bytes from the next gate on, if the count can be read.
+fn pass_block(bytes: &[u8]) -> Option<(usize, &[u8])>
+    ensures { IfSome result (λ passed. 8 * passed.0 + 1 + length passed.1.now ≤ length bytes.now) }
+{
+    let (gate, body) = bytes.split_first()?;
+    if *gate == CLOSED {
+        return None;
+    }
+    match read_count(0, body) {
+        Ok((count, words)) => {
+            let (_, after) = words.split_at(WORD_LENGTH * count as usize);
+            Some((count as usize, after))
+        }
+        Err(_) => None,
+    }
 }
 
 // Reads the block behind an open gate, and gives its count and the bytes from the next gate on.
@@ -89,7 +132,7 @@ fn read_count(gate: u64, rest: &[u8]) -> Result<(u32, &[u8]), Bad>
             kind: BadKind::Short,
         });
     };
-    let count = u32::from_le_bytes(*count);
+    let count = number_of_four(count);
     if count == 0 || count > COUNT_LIMIT {
         return Err(Bad {
             at,
@@ -113,7 +156,7 @@ fn read_words(vertices: u32, at: u64, words: &[u8], edges: &mut Vec<Edge>) -> Re
 {
     let mut rest = words;
     while let Some((word, after)) = rest.split_first_chunk::<8>() {
-        let Some(edge) = read_plain(u64::from_le_bytes(*word), vertices) else {
+        let Some(edge) = read_plain(number_of_eight(word), vertices) else {
             let at = at + (words.len() - rest.len()) as u64;
             return Err(FileFault::Bad {
                 bad: Bad {

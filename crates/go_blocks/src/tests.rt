@@ -2,10 +2,9 @@
 ghost use Rattle.go_blocks.specs.File.{IsVertexCount};
 
 use crate::{
-    Bad, BadKind, BlockPlace, FileFault, VERTEX_LIMIT, file_laws, header, read_file, unmade,
-    write_block,
+    Bad, BadKind, BlockPlace, FileFault, file_laws, header, read_file, unmade, write_block,
 };
-use go_word::Edge;
+use go_word::{Edge, VERTEX_LIMIT};
 use std::process::Abort;
 use std::test::Fail;
 
@@ -51,6 +50,23 @@ fn one_edge_in_29_bytes(rt: HostRuntime) -> Result<(), Fail> {
     );
     let (edges, blocks) = file.into_parts();
     assert_eq!(rt; (edges.len(), blocks.len()), (1, 1));
+    Ok(())
+}
+
+#[test]
+fn bytes_behind_the_closed_gate_take_no_memory(rt: HostRuntime) -> Result<(), Fail> {
+    let mut bytes = FILE.to_vec(rt.alloc())?;
+    bytes.resize(1_000_000, 1)?;
+    let (edges, blocks) = read_file(rt.alloc(), &bytes)?.into_parts();
+    assert_eq!(rt; edges.as_slice(), [EDGE].as_slice());
+    assert!(rt; edges.capacity() <= 8 && blocks.capacity() <= 8);
+    Ok(())
+}
+
+#[test]
+fn faults_have_a_text(rt: HostRuntime) -> Result<(), Fail> {
+    let text = format!(in rt.alloc(); "{}", FileFault::Memory)?;
+    assert_eq!(rt; text.as_str(), "out of memory");
     Ok(())
 }
 

@@ -7,6 +7,7 @@ ghost use Rattle.go_word.specs.Word.{IsStorable};
 ghost use Rattle.go_blocks.specs.File.{IsFront, IsOpen, IsCount, body_of, word_bytes};
 
 use crate::layout::{BLOCK_FRAME, CLOSED, WORD_LENGTH};
+use crate::numbers::{eight_bytes, four_bytes};
 use go_word::{Edge, plain};
 use std::alloc::AllocError;
 
@@ -27,7 +28,7 @@ pub fn write_block(edges: &[Edge], out: &mut Vec<u8>) -> Result<(), AllocError>
 {
     out.reserve(BLOCK_FRAME + WORD_LENGTH * edges.len())?;
     // None of these fails: there is room.
-    out.extend_from_slice(&(edges.len() as u32).to_le_bytes())
+    out.extend_from_slice(&four_bytes(edges.len() as u32))
         .unwrap();
     write_words(edges, out);
     out.push(CLOSED).unwrap();
@@ -43,6 +44,6 @@ fn write_words(edges: &[Edge], out: &mut Vec<u8>)
     ensures room { vec_len out.new < vec_capacity out.new }
 {
     for edge in edges {
-        out.extend_from_slice(&plain(*edge).to_le_bytes()).unwrap();
+        out.extend_from_slice(&eight_bytes(plain(*edge))).unwrap();
     }
 }

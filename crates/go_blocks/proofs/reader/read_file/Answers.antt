@@ -17,7 +17,9 @@ pub returns-in_err-vertices-clause-each_fault : goal.returns-in_err-vertices-cla
 returns-in_err-vertices-clause-each_fault c = each_fault c.args.bytes.now c.from_residual.result (returns-in_err-vertices-clause-read c)
 
 pub read_blocks-requires : goal.read_blocks-requires
-read_blocks-requires c = up_to-start c.args.bytes.now c.in_ok-vertices.rest.now c.in_ok-vertices.vertices (header_takes c.args.bytes.now _ (λ i. omega (arith, c.type_inv.bytes i)) c.in_ok-vertices.ensures)
+read_blocks-requires c =
+    up_to-start c.args.bytes.now c.in_ok-vertices.rest.now c.in_ok-vertices.vertices
+    (header_takes c.args.bytes.now _ (λ i. omega (arith, c.type_inv.bytes i)) c.in_ok-vertices.ensures)
 
 pub returns-clause-each_file : goal.returns-clause-each_file
 returns-clause-each_file c = each_file c.args.bytes.now c.read_blocks.result c.read_blocks.ensures
