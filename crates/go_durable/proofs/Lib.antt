@@ -1,5 +1,6 @@
 -- The lemmas of durable logs.
 pub mod Moments
+pub mod Asking
 pub mod Gates
 pub mod Headers
 pub mod Growing
@@ -7,3 +8,7 @@ pub mod Attached
 pub mod Standing
 pub mod Recovered
 pub mod Places
+pub mod Journals
+pub mod Finishing
+pub mod Ranges
+pub mod RangeSteps

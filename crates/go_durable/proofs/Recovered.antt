@@ -2,7 +2,8 @@
 use Rattle.std.proofs.Common.{◌≡◌, inl, inr, ℕ, List, [], refl, sym, subst}
 use Rattle.std.specs.Prelude.{Option, None, Some, IfSome, Ok}
 use Rattle.go_word.specs.declared.edge.Edge.{Edge}
-use Rattle.go_durable.specs.Kept.{Found}
+use Rattle.go_disk.specs.Device.{Device}
+use Rattle.go_durable.specs.LogState.{OpenedLog}
 use Rattle.go_durable.specs.Moments.{SettlesTo}
 use Rattle.go_durable.specs.Recovery.{Recovers}
 use Rattle.go_durable.specs.Attaching.{IsAnswerOf, IsLeft, IsOpening}
@@ -17,12 +18,14 @@ left_recovers v log bytes image recovers (inr made) =
     subst (λ (l : List Edge). Recovers v l image) (sym none) made.1
 
 -- of a disk that tells, or not
-shown_recovers : (v : ℕ) (log : List Edge) (seen : Option (List ℕ)) (bytes image : List ℕ) → IfSome seen (λ told. told ≡ bytes) → Recovers v log bytes → IsLeft v seen image → Recovers v log image
+shown_recovers : (v : ℕ) (log : List Edge) (contents : Option (List ℕ)) (bytes image : List ℕ) → IfSome contents (λ told. told ≡ bytes)
+    → Recovers v log bytes → IsLeft v contents image → Recovers v log image
 shown_recovers v log None bytes image shown recovers left = absurd left
 shown_recovers v log (Some told) bytes image shown recovers left = left_recovers v log told image (subst (Recovers v log) (sym shown) recovers) left
 
 -- of an opening
-pub opening_recovers : {D : Type 0} (seen : D → Option (List ℕ)) (clock : D → ℕ) (since : D → ℕ → List ℕ → Type 0) (v room : ℕ) (old new : D) (found : Found D) →
-    IsAnswerOf v room (seen old) (Ok found) → IsOpening seen clock since v old new → SettlesTo clock since old new (Recovers v found.edges)
-opening_recovers seen clock since v room old new found is opening =
-    settles_weaker clock since old new (IsLeft v (seen old)) (Recovers v found.edges) (λ image left. shown_recovers v found.edges (seen old) is.bytes image is.shown is.answer.recovers left) opening
+pub opening_recovers : {D : Type 0} (device : Device D) (v room : ℕ) (old new : D) (found : OpenedLog D) →
+    IsAnswerOf v room (device.contents old) (Ok found) → IsOpening device v old new → SettlesTo device old new (Recovers v found.edges)
+opening_recovers device v room old new found is opening =
+    settles_weaker device old new (IsLeft v (device.contents old)) (Recovers v found.edges) (λ image left.
+    shown_recovers v found.edges (device.contents old) is.bytes image is.shown is.answer.recovers left) opening

@@ -2,14 +2,15 @@
 use Rattle.std.specs.Prelude.{◌≡◌, ◌⊎◌, ℕ, ◌<◌, ◌≤◌, List, [], length, Option, None, Some, IfSome, Result, Ok, Err}
 use Rattle.go_text.specs.Causes.{Rose}
 use Rattle.go_word.specs.declared.edge.Edge.{Edge}
-use Rattle.go_disk.specs.Disk.{Tells}
+use Rattle.go_disk.specs.Device.{Device}
+use Rattle.go_disk.specs.Disk.{StaysTold}
 use Rattle.go_blocks.specs.declared.fault.Bad.{Bad as Place}
 use Rattle.go_blocks.specs.File.{File, IsUnmade}
 use Rattle.go_blocks.specs.Faults.{IsFirstFault}
 use Rattle.go_durable.specs.declared.fault.OpenFault.{OpenFault}
 use Rattle.go_durable.specs.declared.fault.OpenFault.TheVariants.{Bad, Vertices, TooLong, TooMany, Disk, Memory}
 use Rattle.go_durable.specs.declared.limits.TheConstants.{FILE_LIMIT}
-use Rattle.go_durable.specs.Kept.{Found}
+use Rattle.go_durable.specs.LogState.{OpenedLog}
 use Rattle.go_durable.specs.Moments.{LeavesOnly, SettlesTo}
 use Rattle.go_durable.specs.Recovery.{Recovers}
 use Rattle.go_durable.specs.Standing.{IsQuiet, IsOpened}
@@ -56,14 +57,14 @@ Refuses v room bytes (Disk disk) = Unit {0}
 Refuses v room bytes (Memory disk) = Unit {0}
 
 -- what is answered of bytes
-abbrev pub Answers : {D : Type 0} → ℕ → ℕ → List ℕ → Result (Found D) (OpenFault D) → Type 0
+abbrev pub Answers : {D : Type 0} → ℕ → ℕ → List ℕ → Result (OpenedLog D) (OpenFault D) → Type 0
 Answers v room bytes (Ok found) = IsFound v room bytes found.edges
 Answers v room bytes (Err fault) = Refuses v room bytes fault
 
 -- the answer is that of some bytes, and where the disk tells of those that a read gives
-pub record IsAnswerOf {D : Type 0} (v room : ℕ) (seen : Option (List ℕ)) (result : Result (Found D) (OpenFault D)) : Type 0 where
+pub record IsAnswerOf {D : Type 0} (v room : ℕ) (contents : Option (List ℕ)) (result : Result (OpenedLog D) (OpenFault D)) : Type 0 where
   pub bytes : List ℕ
-  pub shown : IfSome seen (λ told. told ≡ bytes)
+  pub shown : IfSome contents (λ told. told ≡ bytes)
   pub answer : Answers v room bytes result
 
 -- the disk, whatever was answered
@@ -75,7 +76,7 @@ disk_of (TooMany count disk) = disk
 disk_of (Disk disk) = disk
 disk_of (Memory disk) = disk
 
-abbrev pub disk_in : {D : Type 0} → Result (Found D) (OpenFault D) → D
+abbrev pub disk_in : {D : Type 0} → Result (OpenedLog D) (OpenFault D) → D
 disk_in (Ok found) = found.log.disk
 disk_in (Err fault) = disk_of fault
 
@@ -86,36 +87,36 @@ IsLeft v None image = ⊥
 IsLeft v (Some bytes) image = (image ≡ bytes) ⊎ (IsUnmade bytes × Recovers v [] image)
 
 -- up to the first sync that succeeded the images are among those at entry, and from then on they are those of an opening
-abbrev pub IsOpening : {D : Type 0} → (D → Option (List ℕ)) → (D → ℕ) → (D → ℕ → List ℕ → Type 0) → ℕ → D → D → Type 0
-IsOpening seen clock since v old new = SettlesTo clock since old new (IsLeft v (seen old))
+abbrev pub IsOpening : {D : Type 0} → Device D → ℕ → D → D → Type 0
+IsOpening device v old new = SettlesTo device old new (IsLeft v (device.contents old))
 
 -- no sync succeeded, so that all images are among those at entry; or one did
-abbrev pub MayBeOpening : {D : Type 0} → (D → Option (List ℕ)) → (D → List ℕ → Type 0) → (D → ℕ) → (D → ℕ → List ℕ → Type 0) → ℕ → D → D → Type 0
-MayBeOpening seen images clock since v old new = LeavesOnly clock since old new (images old) ⊎ IsOpening seen clock since v old new
+abbrev pub MayBeOpening : {D : Type 0} → Device D → ℕ → D → D → Type 0
+MayBeOpening device v old new = LeavesOnly device old new (device.images old) ⊎ IsOpening device v old new
 
 -- the images of the moments of an opening, by its answer: where it is no fault of the disk, a sync succeeded
-abbrev pub OpensOver : {D : Type 0} → (D → Option (List ℕ)) → (D → List ℕ → Type 0) → (D → ℕ) → (D → ℕ → List ℕ → Type 0) → ℕ → D → Result (Found D) (OpenFault D) → Type 0
-OpensOver seen images clock since v old (Err (Disk new)) = MayBeOpening seen images clock since v old new
-OpensOver seen images clock since v old result = IsOpening seen clock since v old (disk_in result)
+abbrev pub OpensOver : {D : Type 0} → Device D → ℕ → D → Result (OpenedLog D) (OpenFault D) → Type 0
+OpensOver device v old (Err (Disk new)) = MayBeOpening device v old new
+OpensOver device v old result = IsOpening device v old (disk_in result)
 
 -- the number of vertices is the one asked for, and told stays told
-pub record IsOpenedFor {D : Type 0} (seen base : D → Option (List ℕ)) (images : D → List ℕ → Type 0) (v : ℕ) (old : D) (found : Found D) : Type 0 where
-  pub opened : IsOpened seen base images found
+pub record IsOpenedFor {D : Type 0} (device : Device D) (v : ℕ) (old : D) (found : OpenedLog D) : Type 0 where
+  pub opened : IsOpened device found
   pub vertices_are : found.log.vertices ≡ v
-  pub told : Tells (λ a b. Unit {0}) (seen old) (seen found.log.disk)
+  pub told : StaysTold (λ a b. Unit {0}) (device.contents old) (device.contents found.log.disk)
 
 -- a fault of the disk is told only where the count of its faults rose
-abbrev pub TellsFault : {D : Type 0} → (D → ℕ) → D → Result (Found D) (OpenFault D) → Type 0
-TellsFault faults old (Err (Disk new)) = Rose (faults old) (faults new)
-TellsFault faults old result = Unit {0}
+abbrev pub TellsFault : {D : Type 0} → Device D → D → Result (OpenedLog D) (OpenFault D) → Type 0
+TellsFault device old (Err (Disk new)) = Rose (device.faults old) (device.faults new)
+TellsFault device old result = Unit {0}
 
 -- what a read gives is what it gave, and nothing is pending
-pub record IsUntouched {D : Type 0} (seen base : D → Option (List ℕ)) (images : D → List ℕ → Type 0) (old new : D) : Type 0 where
-  pub same : seen new ≡ seen old
-  pub quiet : IsQuiet seen base images new
+pub record IsUntouched {D : Type 0} (device : Device D) (old new : D) : Type 0 where
+  pub same : device.contents new ≡ device.contents old
+  pub quiet : IsQuiet device new
 
 -- a refusal that isn't for a fault of the disk left the disk untouched
-abbrev pub LeavesUntouched : {D : Type 0} → (D → Option (List ℕ)) → (D → Option (List ℕ)) → (D → List ℕ → Type 0) → D → Result (Found D) (OpenFault D) → Type 0
-LeavesUntouched seen base images old (Ok found) = Unit {0}
-LeavesUntouched seen base images old (Err (Disk new)) = Unit {0}
-LeavesUntouched seen base images old (Err refused) = IsUntouched seen base images old (disk_of refused)
+abbrev pub LeavesUntouched : {D : Type 0} → Device D → D → Result (OpenedLog D) (OpenFault D) → Type 0
+LeavesUntouched device old (Ok found) = Unit {0}
+LeavesUntouched device old (Err (Disk new)) = Unit {0}
+LeavesUntouched device old (Err refused) = IsUntouched device old (disk_of refused)

@@ -1,5 +1,5 @@
 -- What the contracts of durable logs cite.
-pub mod Kept
+pub mod LogState
 pub mod Moments
 pub mod Recovery
 pub mod Standing
@@ -8,3 +8,6 @@ pub mod Appending
 pub mod Attaching
 pub mod Handing
 pub mod Reading
+pub mod Ranging
+pub mod Journal
+pub mod Finishing

@@ -28,13 +28,13 @@ impl<D: Disk> DurableLog<D> {
         requires within { All (IsWithin self.vertices) edges.now }
         requires room { self.front + length edges.now < 2 ^ 32 }
 
-        ensures answer { Appends D.seen D.base D.images D.faults edges.now self result }
+        ensures answer { Appends D.device edges.now self result }
 
         // What a crash at each moment of the call may leave.
-        ensures moments { (log : List Edge) → IsLog D.seen D.base D.images self log →
-            LeavesOnly D.clock D.since self.disk (disk_after result) (IsBeforeOrAfter self.vertices log edges.now) }
+        ensures moments { (log : List Edge) → IsLog D.device self log →
+            LeavesOnly D.device self.disk (disk_after result) (IsBeforeOrAfter self.vertices log edges.now) }
 
-        ensures count { D.faults self.disk ≤ D.faults (disk_after result) }
+        ensures count { D.device.faults self.disk ≤ D.device.faults (disk_after result) }
     {
         let DurableLog {
             mut disk,

@@ -35,7 +35,7 @@ pub(crate) fn attach_and_append_twice<D: Disk + Drop>(
     requires second_count { IsCount (length second.now) }
     requires second_within { All (IsWithin vertices) second.now }
 
-    ensures { IfSome result (λ used. SettlesTo D.clock D.since disk used.disk
+    ensures { IfSome result (λ used. SettlesTo D.device disk used.disk
         (λ image. Recovers vertices used.old.items image
         ⊎ (Recovers vertices (used.old.items ++ first.now) image
         ⊎ Recovers vertices ((used.old.items ++ first.now) ++ second.now) image))) }

@@ -17,9 +17,9 @@ pub struct DurableLog<D> {
 }
 
 impl<D> Model for DurableLog<D> {
-    ghost use Rattle.go_durable.specs.Kept.{Kept, IsSound};
+    ghost use Rattle.go_durable.specs.LogState.{LogState, IsSound};
 
-    ghost Value = { Kept D };
+    ghost Value = { LogState D };
 
     ghost view = { λ log. record { disk = log.disk; vertices = log.vertices; front = log.front; gate = log.gate; places = log.places.items } };
 
@@ -59,12 +59,12 @@ pub struct Opened<D: Disk> {
 }
 
 impl<D: Disk> Model for Opened<D> {
-    ghost use Rattle.go_durable.specs.Kept.{Found};
+    ghost use Rattle.go_durable.specs.LogState.{OpenedLog};
     ghost use Rattle.go_durable.specs.Standing.{IsOpened};
 
-    ghost Value = { Found D };
+    ghost Value = { OpenedLog D };
 
     ghost view = { λ opened. record { log = opened.log; edges = opened.edges.items } };
 
-    ghost invariant = { λ opened. IsOpened D.seen D.base D.images (record { log = opened.log; edges = opened.edges.items }) };
+    ghost invariant = { λ opened. IsOpened D.device (record { log = opened.log; edges = opened.edges.items }) };
 }

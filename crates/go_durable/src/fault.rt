@@ -51,7 +51,7 @@ pub enum OpenFault<D> {
 /// Why a call of a log gave up.
 #[derive(Drop)]
 pub enum LogFault<D> {
-    /// The disk failed. The log is spent: the disk is to be attached again.
+    /// The disk failed. The log is spent: only attaching a disk anew tells which of its entries are there.
     Disk {
         /// The disk.
         disk: D,

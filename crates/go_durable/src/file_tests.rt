@@ -1,7 +1,7 @@
 // Logs on a real file, and on one that is too long.
-ghost use Rattle.std.specs.Prelude.{◌≡◌, All, None, length, IfOk, refl};
-ghost use Rattle.std.proofs.lemmas.Option.{none-some};
+ghost use Rattle.std.specs.Prelude.{◌≡◌, All, length, IfOk};
 ghost use Rattle.go_word.specs.Log.{IsWithin};
+ghost use Rattle.go_disk.specs.Device.{silent, silent_rules};
 ghost use Rattle.go_blocks.specs.File.{IsCount};
 
 use crate::fixture::{EDGE, VERTICES};
@@ -18,27 +18,9 @@ use std::test::Fail;
 struct LongDisk;
 
 impl Disk for LongDisk {
-    ghost seen = { λ _. None };
+    ghost device = { silent (λ disk. 0) };
 
-    ghost base = { λ _. None };
-
-    ghost images = { λ _ image. ⊥ };
-
-    ghost clock = { λ _. 0 };
-
-    ghost since = { λ _ t image. ⊥ };
-
-    ghost faults = { λ _. 0 };
-
-    ghost seen_is_image = { λ disk bytes told. none-some bytes told };
-
-    ghost base_is_image = { λ disk bytes told. none-some bytes told };
-
-    ghost untold = { λ disk nothing. (refl, λ image is_image. is_image) };
-
-    ghost counts_now = { λ disk t image passed is_image. is_image };
-
-    ghost only_now = { λ disk image is_image. is_image };
+    ghost rules = { silent_rules (λ disk. 0) };
 
     fn len(&mut self) -> Result<u64, Failed> {
         Ok(FILE_LIMIT + 1)
@@ -67,7 +49,7 @@ fn file_of_more_than_a_gibibyte_is_too_long(rt: HostRuntime) -> Result<(), Fail>
 }
 
 // As many copies of the edge.
-fn copies(alloc: Global, count: usize) -> Result<Vec<Edge>, AllocError>
+pub(crate) fn copies(alloc: Global, count: usize) -> Result<Vec<Edge>, AllocError>
     ensures count { IfOk result (λ edges. length edges.items ≡ count) }
     ensures within { IfOk result (λ edges. All (IsWithin 8) edges.items) }
 {

@@ -15,15 +15,15 @@ use go_disk::{Disk, Failed};
 // at all.
 pub(crate) fn open_behind<D: Disk>(disk: &mut D, gate: u64, body: &[u8]) -> Result<(), Failed>
     requires { gate + 1 < 2 ^ 64 }
-    ensures moments { (front inner : List ℕ) → IsShut D.seen D.base D.images front disk.old → gate ≡ length front →
+    ensures moments { (front inner : List ℕ) → IsShut D.device front disk.old → gate ≡ length front →
         body.now ≡ inner ++ CLOSED ∷ [] →
-        LeavesOnly D.clock D.since disk.old disk.new (IsShutOrOpened (D.seen disk.old) (gate + 1 + length body.now) front inner) }
-    ensures done { (front inner : List ℕ) → IsShut D.seen D.base D.images front disk.old → gate ≡ length front →
+        LeavesOnly D.device disk.old disk.new (IsShutOrOpened (D.device.contents disk.old) (gate + 1 + length body.now) front inner) }
+    ensures done { (front inner : List ℕ) → IsShut D.device front disk.old → gate ≡ length front →
         body.now ≡ inner ++ CLOSED ∷ [] →
-        OnOk result (IsOpenedOn D.seen D.base D.images front inner disk.old disk.new) }
-    ensures failed { (front : List ℕ) → IsShut D.seen D.base D.images front disk.old → gate ≡ length front →
-        OnErr result (StaysShut (D.seen disk.old) (D.base disk.new) front) }
-    ensures cause { HasCause (D.faults disk.old) (D.faults disk.new) result }
+        OnOk result (IsOpenedOn D.device front inner disk.old disk.new) }
+    ensures failed { (front : List ℕ) → IsShut D.device front disk.old → gate ≡ length front →
+        OnErr result (StaysShut (D.device.contents disk.old) (D.device.base disk.new) front) }
+    ensures cause { HasCause (D.device.faults disk.old) (D.device.faults disk.new) result }
 {
     let Ok(()) = write_through(disk, gate + 1, body) else {
         return Err(Failed);

@@ -6,7 +6,7 @@ ghost use Rattle.go_word.specs.Log.{IsWithin};
 ghost use Rattle.go_blocks.specs.declared.log_file.BlockPlace.{BlockPlace};
 ghost use Rattle.go_blocks.specs.File.{File, IsUnmade, word_bytes};
 ghost use Rattle.go_durable.specs.Attaching.{IsLeft};
-ghost use Rattle.go_durable.specs.Kept.{Kept, words_at, entries_of_place};
+ghost use Rattle.go_durable.specs.LogState.{LogState, words_at, entries_of_place};
 ghost use Rattle.go_durable.specs.Recovery.{Recovers};
 ghost use Rattle.go_durable.specs.Standing.{IsLog};
 
@@ -18,16 +18,16 @@ use go_disk::Disk;
 /// disk tells, there is one, they are the only ones that the log stands for, and the words of each block stand at its
 /// kept place.
 pub fn log_laws<D: Disk>()
-    ensures so_many { (kept : Kept D) (log : List Edge) → IsLog D.seen D.base D.images kept log → kept.front ≡ length log }
-    ensures within { (kept : Kept D) (log : List Edge) → IsLog D.seen D.base D.images kept log → All (IsWithin kept.vertices) log }
-    ensures each_image { (kept : Kept D) (log : List Edge) (image : List ℕ) → IsLog D.seen D.base D.images kept log →
-        D.images kept.disk image → File kept.vertices log image }
-    ensures an_image { (kept : Kept D) (log : List Edge) (bytes : List ℕ) → IsLog D.seen D.base D.images kept log →
-        D.seen kept.disk ≡ Some bytes → D.images kept.disk bytes × File kept.vertices log bytes }
-    ensures one_log { (kept : Kept D) (log other : List Edge) (bytes : List ℕ) → D.seen kept.disk ≡ Some bytes →
-        IsLog D.seen D.base D.images kept log → IsLog D.seen D.base D.images kept other → log ≡ other }
-    ensures places { (kept : Kept D) (log : List Edge) (bytes : List ℕ) (i : ℕ) (place : BlockPlace) →
-        IsLog D.seen D.base D.images kept log → D.seen kept.disk ≡ Some bytes → slice_get kept.places i ≡ Some place →
+    ensures so_many { (kept : LogState D) (log : List Edge) → IsLog D.device kept log → kept.front ≡ length log }
+    ensures within { (kept : LogState D) (log : List Edge) → IsLog D.device kept log → All (IsWithin kept.vertices) log }
+    ensures each_image { (kept : LogState D) (log : List Edge) (image : List ℕ) → IsLog D.device kept log →
+        D.device.images kept.disk image → File kept.vertices log image }
+    ensures an_image { (kept : LogState D) (log : List Edge) (bytes : List ℕ) → IsLog D.device kept log →
+        D.device.contents kept.disk ≡ Some bytes → D.device.images kept.disk bytes × File kept.vertices log bytes }
+    ensures one_log { (kept : LogState D) (log other : List Edge) (bytes : List ℕ) → D.device.contents kept.disk ≡ Some bytes →
+        IsLog D.device kept log → IsLog D.device kept other → log ≡ other }
+    ensures places { (kept : LogState D) (log : List Edge) (bytes : List ℕ) (i : ℕ) (place : BlockPlace) →
+        IsLog D.device kept log → D.device.contents kept.disk ≡ Some bytes → slice_get kept.places i ≡ Some place →
         words_at place bytes ≡ flat_map word_bytes (entries_of_place kept.places i place log) }
 {}
 

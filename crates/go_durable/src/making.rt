@@ -15,11 +15,11 @@ use go_disk::{Disk, Failed};
 // Makes the file of a disk whose bytes, so many of them, are not made yet.
 pub(crate) fn make<D: Disk>(disk: &mut D, len: usize, vertices: u32) -> Result<(), Failed>
     requires { IsVertexCount vertices }
-    ensures moments { IsQuiet D.seen D.base D.images disk.old → IfSome (D.seen disk.old) (IsUnmadeOf len) →
-        LeavesOnly D.clock D.since disk.old disk.new (IsLeft vertices (D.seen disk.old)) }
-    ensures done { IsQuiet D.seen D.base D.images disk.old → IfSome (D.seen disk.old) (IsUnmadeOf len) →
-        OnOk result (IsMade D.seen D.base D.images vertices disk.old disk.new) }
-    ensures cause { HasCause (D.faults disk.old) (D.faults disk.new) result }
+    ensures moments { IsQuiet D.device disk.old → IfSome (D.device.contents disk.old) (IsUnmadeOf len) →
+        LeavesOnly D.device disk.old disk.new (IsLeft vertices (D.device.contents disk.old)) }
+    ensures done { IsQuiet D.device disk.old → IfSome (D.device.contents disk.old) (IsUnmadeOf len) →
+        OnOk result (IsMade D.device vertices disk.old disk.new) }
+    ensures cause { HasCause (D.device.faults disk.old) (D.device.faults disk.new) result }
 {
     let Ok(()) = close_gate(disk, len) else {
         return Err(Failed);
@@ -34,11 +34,11 @@ pub(crate) fn make<D: Disk>(disk: &mut D, len: usize, vertices: u32) -> Result<(
 
 // Sees to it that the gate of the header stands closed before anything stands behind it.
 fn close_gate<D: Disk>(disk: &mut D, len: usize) -> Result<(), Failed>
-    ensures moments { (v : ℕ) → IsQuiet D.seen D.base D.images disk.old → IfSome (D.seen disk.old) (IsUnmadeOf len) →
-        LeavesOnly D.clock D.since disk.old disk.new (IsLeft v (D.seen disk.old)) }
-    ensures done { IsQuiet D.seen D.base D.images disk.old → IfSome (D.seen disk.old) (IsUnmadeOf len) →
-        OnOk result (IsGated D.seen D.base D.images disk.old disk.new) }
-    ensures cause { HasCause (D.faults disk.old) (D.faults disk.new) result }
+    ensures moments { (v : ℕ) → IsQuiet D.device disk.old → IfSome (D.device.contents disk.old) (IsUnmadeOf len) →
+        LeavesOnly D.device disk.old disk.new (IsLeft v (D.device.contents disk.old)) }
+    ensures done { IsQuiet D.device disk.old → IfSome (D.device.contents disk.old) (IsUnmadeOf len) →
+        OnOk result (IsGated D.device disk.old disk.new) }
+    ensures cause { HasCause (D.device.faults disk.old) (D.device.faults disk.new) result }
 {
     if len >= 2 {
         return Ok(());

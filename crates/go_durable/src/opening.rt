@@ -3,7 +3,7 @@ ghost use Rattle.std.specs.Prelude.{◌≡◌, ◌≤◌, IfOk, length};
 ghost use Rattle.go_blocks.specs.File.{IsVertexCount};
 ghost use Rattle.go_durable.specs.Attaching.{IsAnswerOf, IsOpenedFor, LeavesUntouched, OpensOver, TellsFault, disk_in};
 ghost use Rattle.go_durable.specs.Handing.{kept_of, result_of};
-ghost use Rattle.go_durable.specs.Kept.{IsSound};
+ghost use Rattle.go_durable.specs.LogState.{IsSound};
 ghost use Rattle.go_durable.specs.Moments.{SettlesTo};
 ghost use Rattle.go_durable.specs.Recovery.{Recovers};
 ghost use Rattle.go_durable.specs.Standing.{IsOpened};
@@ -33,16 +33,16 @@ pub fn attach<D: Disk>(
     requires { IsVertexCount vertices }
 
     // What is answered is that of the bytes on the disk.
-    ensures answer { IsAnswerOf vertices room (D.seen disk) result }
-    ensures log { IfOk result (IsOpenedFor D.seen D.base D.images vertices disk) }
+    ensures answer { IsAnswerOf vertices room (D.device.contents disk) result }
+    ensures log { IfOk result (IsOpenedFor D.device vertices disk) }
 
     // What a crash at each moment of the call may leave.
-    ensures moments { OpensOver D.seen D.images D.clock D.since vertices disk result }
-    ensures recovers { IfOk result (λ found. SettlesTo D.clock D.since disk found.log.disk (Recovers vertices found.edges)) }
-    ensures untouched { LeavesUntouched D.seen D.base D.images disk result }
+    ensures moments { OpensOver D.device vertices disk result }
+    ensures recovers { IfOk result (λ found. SettlesTo D.device disk found.log.disk (Recovers vertices found.edges)) }
+    ensures untouched { LeavesUntouched D.device disk result }
 
-    ensures fault { TellsFault D.faults disk result }
-    ensures count { D.faults disk ≤ D.faults (disk_in result) }
+    ensures fault { TellsFault D.device disk result }
+    ensures count { D.device.faults disk ≤ D.device.faults (disk_in result) }
 {
     let mut disk = disk;
     match open(alloc, &mut disk, vertices, room) {
@@ -59,14 +59,14 @@ fn open<D: Disk>(
     room: u64,
 ) -> Result<Contents, OpenFault<()>>
     requires { IsVertexCount vertices }
-    ensures answer { IsAnswerOf vertices room (D.seen disk.old) (result_of vertices disk.new result) }
+    ensures answer { IsAnswerOf vertices room (D.device.contents disk.old) (result_of vertices disk.new result) }
     ensures log { IfOk result (λ contents.
-        IsOpenedFor D.seen D.base D.images vertices disk.old (record { log = kept_of vertices disk.new contents; edges = contents.edges.items })) }
+        IsOpenedFor D.device vertices disk.old (record { log = kept_of vertices disk.new contents; edges = contents.edges.items })) }
     ensures sound { IfOk result (λ contents. IsSound vertices (length contents.edges.items) contents.gate contents.places.items) }
-    ensures moments { OpensOver D.seen D.images D.clock D.since vertices disk.old (result_of vertices disk.new result) }
-    ensures untouched { LeavesUntouched D.seen D.base D.images disk.old (result_of vertices disk.new result) }
-    ensures fault { TellsFault D.faults disk.old (result_of vertices disk.new result) }
-    ensures count { D.faults disk.old ≤ D.faults disk.new }
+    ensures moments { OpensOver D.device vertices disk.old (result_of vertices disk.new result) }
+    ensures untouched { LeavesUntouched D.device disk.old (result_of vertices disk.new result) }
+    ensures fault { TellsFault D.device disk.old (result_of vertices disk.new result) }
+    ensures count { D.device.faults disk.old ≤ D.device.faults disk.new }
 {
     let Ok(()) = disk.sync() else {
         return Err(OpenFault::Disk { disk: () });
@@ -89,7 +89,7 @@ fn open<D: Disk>(
 
 // The log of these contents, with its entries.
 fn opened<D: Disk>(disk: D, vertices: u32, contents: Contents) -> Opened<D>
-    requires opened { IsOpened D.seen D.base D.images (record { log = kept_of vertices disk contents; edges = contents.edges.items }) }
+    requires opened { IsOpened D.device (record { log = kept_of vertices disk contents; edges = contents.edges.items }) }
     requires sound { IsSound vertices (length contents.edges.items) contents.gate contents.places.items }
     ensures { result ≡ record { log = kept_of vertices disk contents; edges = contents.edges.items } }
 {

@@ -10,10 +10,10 @@ use std::alloc::Global;
 
 // All the bytes, unless there are too many. An empty disk isn't read.
 pub(crate) fn read_whole<D: Disk>(alloc: Global, disk: &mut D) -> Result<Vec<u8>, OpenFault<()>>
-    ensures looked { IsQuiet D.seen D.base D.images disk.old →
-        IsLookedAt D.seen D.base D.images D.clock D.since disk.old disk.new }
-    ensures answer { ReadsWhole D.seen D.faults disk.old disk.new result }
-    ensures count { D.faults disk.old ≤ D.faults disk.new }
+    ensures looked { IsQuiet D.device disk.old →
+        IsLookedAt D.device disk.old disk.new }
+    ensures answer { ReadsWhole D.device disk.old disk.new result }
+    ensures count { D.device.faults disk.old ≤ D.device.faults disk.new }
 {
     let Ok(len) = disk.len() else {
         return Err(OpenFault::Disk { disk: () });

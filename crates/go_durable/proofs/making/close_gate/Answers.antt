@@ -7,26 +7,30 @@ use Rattle.go_durable.specs.Reading.{IsUnmadeOf}
 use Rattle.go_durable.specs.Standing.{IsQuiet}
 use Rattle.go_durable.specs.Writing.{IsTornOf}
 use Rattle.go_durable.proofs.Moments.{no_call, weaker}
+use Rattle.go_durable.proofs.Asking.{first_is_there}
 use Rattle.go_durable.proofs.Headers.{seen_is_left, gate_is_left, gate_is_closed, gate_was_closed}
 use Rattle.go_durable.proofs.making.close_gate.Given.{Over}
 use Rattle.go_durable.proofs.making.close_gate.Goals.{After-write_through}
 use Rattle.go_durable.proofs.making.close_gate.Goals as goal
 
 -- the moments of the write
-closing : (g : Over) (c : After-write_through g) (v : ℕ) → IsQuiet g.D.Disk.seen g.D.Disk.base g.D.Disk.images c.args.disk.now → IfSome (g.D.Disk.seen c.args.disk.now) (IsUnmadeOf c.args.len) →
-    LeavesOnly g.D.Disk.clock g.D.Disk.since c.args.disk.now c.write_through.new.disk (IsLeft v (g.D.Disk.seen c.args.disk.now))
+closing : (g : Over) (c : After-write_through g) (v : ℕ) → IsQuiet g.D.Disk.device c.args.disk.now
+    → IfSome (g.D.Disk.device.contents c.args.disk.now) (IsUnmadeOf c.args.len) →
+    LeavesOnly g.D.Disk.device c.args.disk.now c.write_through.new.disk (IsLeft v (g.D.Disk.device.contents c.args.disk.now))
 closing g c v quiet unmade =
-    weaker g.D.Disk.clock g.D.Disk.since c.args.disk.now c.write_through.new.disk (IsTornOf (g.D.Disk.seen c.args.disk.now) 0 1) (IsLeft v (g.D.Disk.seen c.args.disk.now))
-    (λ image torn. gate_is_left v c.args.len (g.D.Disk.seen c.args.disk.now) image unmade (omega arith) torn) (c.write_through.ensures.moments quiet)
+    weaker g.D.Disk.device c.args.disk.now c.write_through.new.disk (IsTornOf (g.D.Disk.device.contents c.args.disk.now) 0 1)
+    (IsLeft v (g.D.Disk.device.contents c.args.disk.now))
+    (λ image torn. gate_is_left v c.args.len (g.D.Disk.device.contents c.args.disk.now) image unmade (omega arith) torn)
+    (c.write_through.ensures.moments quiet (first_is_there (g.D.Disk.device.contents c.args.disk.now)))
 
 pub returns-then-len-ge2-clause-moments : goal.returns-then-len-ge2-clause-moments
 returns-then-len-ge2-clause-moments g c = λ v quiet unmade.
-    no_call g.D.Disk.clock g.D.Disk.since g.D.Disk.images c.args.disk.now (IsLeft v (g.D.Disk.seen c.args.disk.now)) g.met.D.Disk.counts_now g.met.D.Disk.only_now
-    (λ image is. seen_is_left v (g.D.Disk.seen c.args.disk.now) image (quiet.only image is))
+    no_call g.D.Disk.device g.met.D.Disk.rules c.args.disk.now (IsLeft v (g.D.Disk.device.contents c.args.disk.now))
+    (λ image is. seen_is_left v (g.D.Disk.device.contents c.args.disk.now) image (quiet.only image is))
 
 pub returns-then-len-ge2-clause-done : goal.returns-then-len-ge2-clause-done
 returns-then-len-ge2-clause-done g c = λ quiet unmade.
-    let was = gate_was_closed c.args.len (g.D.Disk.seen c.args.disk.now) unmade (omega arith) in
+    let was = gate_was_closed c.args.len (g.D.Disk.device.contents c.args.disk.now) unmade (omega arith) in
     record { shut = record { quiet = quiet; closed = was.0 }; short = was.1 }
 
 pub returns-in_default-clause-moments : goal.returns-in_default-clause-moments
@@ -39,5 +43,6 @@ pub returns-clause-done : goal.returns-clause-done
 returns-clause-done g c = λ quiet unmade.
     let short : c.args.len < 2 = omega arith in
     let written = c.in-Ok.ensures.done quiet in
-    let is = gate_is_closed c.args.len (g.D.Disk.seen c.args.disk.now) (g.D.Disk.seen c.write_through.new.disk) unmade short written.holds in
+    let is = gate_is_closed c.args.len (g.D.Disk.device.contents c.args.disk.now)
+    (g.D.Disk.device.contents c.write_through.new.disk) unmade short written.holds in
     record { shut = record { quiet = written.quiet; closed = is.0 }; short = is.1 }

@@ -1,0 +1,62 @@
+-- What reading a range of a log comes to.
+use Rattle.std.specs.Prelude.{◌≡◌, ℕ, zero, suc, ◌+◌, ◌-◌, ◌<◌, ◌≤◌, List, [], ◌∷◌, ◌++◌, length, take, drop, Option, IfSome, Result, Ok, Err}
+use Rattle.go_text.specs.Causes.{Rose}
+use Rattle.go_word.specs.declared.edge.Edge.{Edge}
+use Rattle.go_word.specs.Word.{decode}
+use Rattle.byteorder.specs.Endian.{little_number}
+use Rattle.go_blocks.specs.File.{File}
+use Rattle.go_blocks.specs.declared.log_file.BlockPlace.{BlockPlace}
+use Rattle.go_disk.specs.Device.{Device}
+use Rattle.go_disk.specs.Disk.{Looks}
+use Rattle.go_durable.specs.declared.fault.LogFault.{LogFault}
+use Rattle.go_durable.specs.declared.fault.LogFault.TheVariants.{Disk, Memory}
+use Rattle.go_durable.specs.Appending.{HasImage}
+use Rattle.go_durable.specs.LogState.{LogState, entries_at}
+use Rattle.go_durable.specs.Moments.{LeavesOnly}
+use Rattle.go_durable.specs.Standing.{IsLog}
+
+-- the entries of so many words in a row
+abbrev pub entries_in : ℕ → List ℕ → List Edge
+entries_in zero bytes = []
+entries_in (suc n) bytes = decode (little_number 8 bytes) ∷ entries_in n (drop 8 bytes)
+
+-- the block of this number has this entry: it begins at the entry or before it, and ends behind it
+pub record HasEntry (places : List BlockPlace) (i entry : ℕ) : Type 0 where
+  pub within : i < length places
+  pub begins : entries_at (take i places) ≤ entry
+  pub ends : entry < entries_at (take (i + 1) places)
+
+-- calls only looked at the disk, and asked for what is there
+pub record LooksOnly {D : Type 0} (device : Device D) (old new : D) : Type 0 where
+  pub looks : Looks device old new
+  pub moments : LeavesOnly device old new (device.images old)
+
+-- so many entries were added, those of the words from a place on, where the disk tells
+pub record AddsWords (contents : Option (List ℕ)) (at count : ℕ) (old new : List Edge) : Type 0 where
+  pub more : List Edge
+  pub added : new ≡ old ++ more
+  pub so_many : length more ≡ count
+  pub shown : IfSome contents (λ bytes. more ≡ entries_in count (drop at bytes))
+
+-- the entries of a log from one place up to another were added
+pub record AddsRange (log : List Edge) (a b : ℕ) (old new : List Edge) : Type 0 where
+  pub added : new ≡ old ++ take (b - a) (drop a log)
+
+-- the log was read: it is the same on its disk, so many entries were added, and they are the log's where the disk tells
+pub record HasReadRange {D : Type 0} (device : Device D) (a b : ℕ) (old new : LogState D) (before after : List Edge) : Type 0 where
+  pub same : new ≡ record old { disk = new.disk }
+  pub stands : (log : List Edge) → IsLog device old log → IsLog device new log
+  pub so_many : length after ≡ length before + (b - a)
+  pub front_stays : take (length before) after ≡ before
+  pub shown : (log : List Edge) → IsLog device old log → IfSome (device.contents old.disk) (λ bytes. AddsRange log a b before after)
+
+-- a log that was read was spent by a fault of its disk: each image is a file of it, and there is one, where the disk tells
+pub record IsReadSpent {D : Type 0} (device : Device D) (old : LogState D) (disk : D) : Type 0 where
+  pub each : (log : List Edge) → IsLog device old log → (image : List ℕ) → device.images disk image → File old.vertices log image
+  pub one : (log : List Edge) → IsLog device old log → IfSome (device.contents old.disk) (λ bytes. HasImage (device.images disk) (File old.vertices log))
+
+-- what is answered: the same log, a spent one where the count of faults rose, or for want of memory the log as it was
+abbrev pub ReadsRange : {D : Type 0} → Device D → ℕ → ℕ → LogState D → List Edge → List Edge → Result (LogState D) (LogFault D) → Type 0
+ReadsRange device a b old before after (Ok new) = HasReadRange device a b old new before after
+ReadsRange device a b old before after (Err (Disk disk)) = Rose (device.faults old.disk) (device.faults disk) × IsReadSpent device old disk × (after ≡ before)
+ReadsRange device a b old before after (Err (Memory log)) = (log ≡ old) × (after ≡ before)
