@@ -10,19 +10,22 @@ use Rattle.go_script.specs.declared.step.Step.{Step}
 use Rattle.go_script.specs.declared.fault.ScriptFault.{ScriptFault}
 use Rattle.go_script.specs.declared.fault.ScriptFault.TheVariants.{Line}
 use Rattle.go_script.specs.Places.{finds_place}
-use Rattle.go_script.specs.Grammar.{is_skipped, command_of, line_of, placed, command_after, script_from, at_line}
-use Rattle.go_script.specs.Steps.{◌>>=◌}
+use Rattle.go_script.specs.Grammar.{command_of, line_of, placed, command_after, script_from, at_line}
+use Rattle.go_text.specs.Texts.{is_skipped}
+use Rattle.go_text.specs.Steps.{◌>>=◌}
 
--- a line is judged by its first four words
-pub line_of-take : (v : ℕ) (before : List Command) (words : List (List ℕ)) → line_of v before (take 4 words) ≡ line_of v before words
+-- a line is judged by its first five words
+pub line_of-take : (v : ℕ) (before : List Command) (words : List (List ℕ)) → line_of v before (take 5 words) ≡ line_of v before words
 line_of-take v before [] = refl
 line_of-take v before (a ∷ []) = refl
 line_of-take v before (a ∷ b ∷ []) = refl
 line_of-take v before (a ∷ b ∷ c ∷ []) = refl
-line_of-take v before (a ∷ b ∷ c ∷ d ∷ more) = refl
+line_of-take v before (a ∷ b ∷ c ∷ d ∷ []) = refl
+line_of-take v before (a ∷ b ∷ c ∷ d ∷ e ∷ more) = refl
 
 -- a fault is told with its line
-when_fault : (skipped : Bool) (read : Result Command FaultKind) (n : ℕ) (without : Result (List Step) ScriptFault) (next : Command → Result (List Step) ScriptFault) (kind : FaultKind) →
+when_fault : (skipped : Bool) (read : Result Command FaultKind) (n : ℕ) (without : Result (List Step) ScriptFault) (next : Command →
+    Result (List Step) ScriptFault) (kind : FaultKind) →
     (if skipped then Ok None else read >>= λ command. Ok (Some command)) ≡ Err kind →
     (if skipped then without else at_line n read >>= next) ≡ Err (Line n kind)
 when_fault true read n without next kind is = absurd (cc)
@@ -30,7 +33,8 @@ when_fault false (Ok command) n without next kind is = absurd (cc)
 when_fault false (Err other) n without next kind is = cc
 
 -- a command goes on
-when_command : (skipped : Bool) (read : Result Command FaultKind) (n : ℕ) (without : Result (List Step) ScriptFault) (next : Command → Result (List Step) ScriptFault) (command : Command) →
+when_command : (skipped : Bool) (read : Result Command FaultKind) (n : ℕ) (without : Result (List Step) ScriptFault) (next : Command →
+    Result (List Step) ScriptFault) (command : Command) →
     (if skipped then Ok None else read >>= λ command. Ok (Some command)) ≡ Ok (Some command) →
     (if skipped then without else at_line n read >>= next) ≡ next command
 when_command true read n without next command is = absurd (cc)
@@ -47,19 +51,25 @@ script_from-fault v before n line more kind fault =
 -- a command goes in front of the steps behind its line
 pub script_from-command : (v : ℕ) (before : List Command) (n : ℕ) (line : List ℕ) (more : List (List ℕ)) (command : Command) →
     line_of v before (words line) ≡ Ok (Some command) →
-    script_from v before n (line ∷ more) ≡ (script_from v (before ++ command ∷ []) (n + 1) more >>= λ steps. Ok (record { line = n; command = command } ∷ steps))
+    script_from v before n (line ∷ more) ≡ (script_from v (before ++ command ∷ []) (n + 1) more >>= λ steps. Ok (record {
+      line = n;
+      command =
+          command;
+    } ∷ steps))
 script_from-command v before n line more command read =
     when_command (is_skipped (words line)) (command_after v before (words line)) n (script_from v before (n + 1) more)
     (λ command'. script_from v (before ++ command' ∷ []) (n + 1) more >>= λ steps. Ok (record { line = n; command = command' } ∷ steps)) command read
 
 -- a line that isn't skipped has the fault of its command
-pub line_of-fault : (v : ℕ) (before : List Command) (words : List (List ℕ)) (kind : FaultKind) → false ≡ is_skipped words → Err kind ≡ command_of v words → Err kind ≡ line_of v before words
+pub line_of-fault : (v : ℕ) (before : List Command) (words : List (List ℕ)) (kind : FaultKind) → false ≡ is_skipped words → Err kind ≡ command_of v words →
+    Err kind ≡ line_of v before words
 line_of-fault v before words kind unskipped fault = rw (sym unskipped, sym fault) refl
 
 -- a command that finds its place
 placed-found : (before : List Command) (found command : Command) → placed before found ≡ Ok command → finds_place before command ≡ true
 placed-found before found command is = elim (cases_Bool (finds_place before found)) [
-  | inl finds ↦ let same : Ok found ≡ Ok command = rw finds at is in let here : found ≡ command = cc in subst (λ (c : Command). finds_place before c ≡ true) here finds
+  | inl finds ↦ let same : Ok found ≡ Ok command = rw finds at is in let here : found ≡ command = cc in
+      subst (λ (c : Command). finds_place before c ≡ true) here finds
   | inr not_found ↦ let fault : Err Place ≡ Ok command = rw not_found at is in absurd (cc)
 ]
 
@@ -76,5 +86,6 @@ written false before (Err kind) command is = absurd (cc)
 written false before (Ok found) command is = placed-found before found command (was_ok (placed before found) command is)
 
 -- a command that was read of a line finds its place
-pub line_of-finds : (v : ℕ) (before : List Command) (words : List (List ℕ)) (command : Command) → line_of v before words ≡ Ok (Some command) → finds_place before command ≡ true
+pub line_of-finds : (v : ℕ) (before : List Command) (words : List (List ℕ)) (command : Command) → line_of v before words ≡ Ok (Some command) →
+    finds_place before command ≡ true
 line_of-finds v before words command read = written (is_skipped words) before (command_of v words) command read

@@ -1,5 +1,6 @@
 -- That what the grammar reads is a reading of the lines, and its fault the first one.
-use Rattle.std.proofs.Common.{◌≡◌, ℕ, zero, suc, ◌+◌, ◌-◌, ◌<◌, ◌⊎◌, inl, inr, List, [], ◌∷◌, ◌++◌, take, slice_get, refl, sym, subst, ap, true, false, Some, Result, Ok, Err, append_assoc, append-nil, arith}
+use Rattle.std.proofs.Common.{◌≡◌, ℕ, zero, suc, ◌+◌, ◌-◌, ◌<◌, ◌⊎◌, inl, inr, List, [], ◌∷◌, ◌++◌, take, slice_get, refl, sym, subst, ap, true, false}
+use Rattle.std.proofs.Common.{Some, Result, Ok, Err, append_assoc, append-nil, arith}
 use Rattle.std.specs.Prelude.{Any}
 use Rattle.std.proofs.lemmas.Bool.{cases_Bool}
 use Rattle.go_text.specs.Word.{words}
@@ -8,10 +9,11 @@ use Rattle.go_script.specs.declared.command.Command.{Command}
 use Rattle.go_script.specs.declared.step.Step.{Step}
 use Rattle.go_script.specs.declared.fault.ScriptFault.{ScriptFault}
 use Rattle.go_script.specs.declared.fault.ScriptFault.TheVariants.{Line, Memory}
-use Rattle.go_script.specs.Grammar.{is_skipped, command_after, script_from, at_line}
+use Rattle.go_script.specs.Grammar.{command_after, script_from, at_line}
+use Rattle.go_text.specs.Texts.{is_skipped}
 use Rattle.go_script.specs.Places.{commands_of}
 use Rattle.go_script.specs.Reading.{ReadsAs, IsReading, HasFirstFault}
-use Rattle.go_script.specs.Steps.{◌>>=◌}
+use Rattle.go_text.specs.Steps.{◌>>=◌}
 
 -- what is read of lines behind a line is read of all of them
 ReadsAs-behind : (v : ℕ) (before : List Command) (n : ℕ) (line : List ℕ) (more : List (List ℕ)) (m : ℕ) (read : Result Command FaultKind) →
@@ -70,11 +72,13 @@ step_at n command = record { line = n; command = command }
 each_step-command : (v : ℕ) (before : List Command) (n : ℕ) (line : List ℕ) (more : List (List ℕ)) (command : Command) (steps : List Step) →
     is_skipped (words line) ≡ false → command_after v before (words line) ≡ Ok command →
     IsReading v (before ++ command ∷ []) (n + 1) more steps →
-    (k : ℕ) (step : Step) → slice_get (step_at n command ∷ steps) k ≡ Some step → ReadsAs v (before ++ take k (command ∷ commands_of steps)) n (line ∷ more) step.line (Ok step.command)
+    (k : ℕ) (step : Step) → slice_get (step_at n command ∷ steps) k ≡ Some step →
+    ReadsAs v (before ++ take k (command ∷ commands_of steps)) n (line ∷ more) step.line (Ok step.command)
 each_step-command v before n line more command steps kept reads reading zero step here =
     let same : step_at n command ≡ step = cc in
     subst (λ (s : Step). ReadsAs v (before ++ []) n (line ∷ more) s.line (Ok s.command)) same
-    (subst (λ (b : List Command). ReadsAs v b n (line ∷ more) n (Ok command)) (sym (append-nil before)) (ReadsAs-first v before n line more (Ok command) kept reads))
+    (subst (λ (b : List Command). ReadsAs v b n (line ∷ more) n (Ok command)) (sym (append-nil before))
+    (ReadsAs-first v before n line more (Ok command) kept reads))
 each_step-command v before n line more command steps kept reads reading (suc k) step here =
     subst (λ (b : List Command). ReadsAs v b n (line ∷ more) step.line (Ok step.command)) (append_assoc before (command ∷ []) (take k (commands_of steps)))
     (ReadsAs-behind v _ n line more step.line (Ok step.command) (reading.each_step k step here))
@@ -82,7 +86,8 @@ each_step-command v before n line more command steps kept reads reading (suc k) 
 -- with a step of the first line in front, each line that isn't skipped has its step
 each_line-command : (v : ℕ) (before : List Command) (n : ℕ) (line : List ℕ) (more : List (List ℕ)) (command : Command) (steps : List Step) →
     IsReading v before (n + 1) more steps →
-    (k : ℕ) (other : List ℕ) → slice_get (line ∷ more) k ≡ Some other → is_skipped (words other) ≡ false → Any (λ step. step.line ≡ n + k) (step_at n command ∷ steps)
+    (k : ℕ) (other : List ℕ) → slice_get (line ∷ more) k ≡ Some other → is_skipped (words other) ≡ false →
+    Any (λ step. step.line ≡ n + k) (step_at n command ∷ steps)
 each_line-command v before n line more command steps reading zero other here kept = (0, step_at n command, omega arith, refl, omega arith)
 each_line-command v before n line more command steps reading (suc k) other here kept =
     Any-behind (step_at n command) steps (n + suc k) (Any-shift steps n k (reading.each_line k other here kept))
@@ -90,14 +95,16 @@ each_line-command v before n line more command steps reading (suc k) other here 
 -- with a step of the first line in front, lines rise
 rises-command : (v : ℕ) (before : List Command) (n : ℕ) (more : List (List ℕ)) (command : Command) (steps : List Step) →
     IsReading v before (n + 1) more steps →
-    (j k : ℕ) (earlier later : Step) → j < k → slice_get (step_at n command ∷ steps) j ≡ Some earlier → slice_get (step_at n command ∷ steps) k ≡ Some later → earlier.line < later.line
+    (j k : ℕ) (earlier later : Step) → j < k → slice_get (step_at n command ∷ steps) j ≡ Some earlier →
+    slice_get (step_at n command ∷ steps) k ≡ Some later → earlier.line < later.line
 rises-command v before n more command steps reading zero zero earlier later order first second = absurd (omega arith)
 rises-command v before n more command steps reading (suc j) zero earlier later order first second = absurd (omega arith)
 rises-command v before n more command steps reading zero (suc k) earlier later order first second =
     let same : step_at n command ≡ earlier = cc in
     let line : n ≡ earlier.line = ap (λ (s : Step). s.line) same in
     omega (arith, (reading.each_step k later second).counted)
-rises-command v before n more command steps reading (suc j) (suc k) earlier later order first second = reading.rises j k earlier later (omega arith) first second
+rises-command v before n more command steps reading (suc j) (suc k) earlier later order first second =
+    reading.rises j k earlier later (omega arith) first second
 
 -- a line with a command in front is the first step
 IsReading-command : (v : ℕ) (before : List Command) (n : ℕ) (line : List ℕ) (more : List (List ℕ)) (command : Command) (steps : List Step) →
@@ -127,18 +134,21 @@ taken n (Err kind) rest steps is = absurd (cc)
 taken n (Ok command) rest steps is = let parts = step_and_rest (step_at n command) (rest command) steps is in (command, parts.0, refl, parts.1, parts.2)
 
 -- a fault of the lines behind a line
-fault_of_rest : (step : Step) (rest : Result (List Step) ScriptFault) (fault : ScriptFault) → (rest >>= λ later. Ok (step ∷ later)) ≡ Err fault → rest ≡ Err fault
+fault_of_rest : (step : Step) (rest : Result (List Step) ScriptFault) (fault : ScriptFault) → (rest >>= λ later. Ok (step ∷ later)) ≡ Err fault →
+    rest ≡ Err fault
 fault_of_rest step (Ok later) fault is = absurd (cc)
 fault_of_rest step (Err other) fault is = cc
 
 -- a fault of a line or of the lines behind it
-refused : (n : ℕ) (read : Result Command FaultKind) (rest : Command → Result (List Step) ScriptFault) (fault : ScriptFault) → line_and_rest n read rest ≡ Err fault →
+refused : (n : ℕ) (read : Result Command FaultKind) (rest : Command → Result (List Step) ScriptFault) (fault : ScriptFault) →
+    line_and_rest n read rest ≡ Err fault →
     ((kind : FaultKind) × (read ≡ Err kind) × (fault ≡ Line n kind)) ⊎ ((command : Command) × (read ≡ Ok command) × (rest command ≡ Err fault))
 refused n (Err kind) rest fault is = inl (kind, refl, cc)
 refused n (Ok command) rest fault is = inr (command, refl, fault_of_rest (step_at n command) (rest command) fault is)
 
 -- what the grammar reads is a reading
-pub script_from-reads : (v : ℕ) (before : List Command) (n : ℕ) (lines : List (List ℕ)) (steps : List Step) → script_from v before n lines ≡ Ok steps → IsReading v before n lines steps
+pub script_from-reads : (v : ℕ) (before : List Command) (n : ℕ) (lines : List (List ℕ)) (steps : List Step) → script_from v before n lines ≡ Ok steps →
+    IsReading v before n lines steps
 script_from-reads v before n [] steps is = let none : [] ≡ steps = cc in subst (λ (s : List Step). IsReading v before n [] s) none (IsReading-nil v before n)
 script_from-reads v before n (line ∷ more) steps is = elim (cases_Bool (is_skipped (words line))) [
   | inl skipped ↦ IsReading-skipped v before n line more steps skipped (script_from-reads v before (n + 1) more steps (rw skipped at is))
@@ -156,7 +166,8 @@ HasFirstFault-first v before n line more kind kept reads =
     record {
       steps = [];
       reading = rw none (IsReading-nil v before n);
-      fault = subst (λ (b : List Command). ReadsAs v b n (line ∷ more) n (Err kind)) (sym (append-nil before)) (ReadsAs-first v before n line more (Err kind) kept reads);
+      fault = subst (λ (b : List Command). ReadsAs v b n (line ∷ more) n (Err kind)) (sym (append-nil before))
+          (ReadsAs-first v before n line more (Err kind) kept reads);
     }
 
 -- a skipped line before the first fault
@@ -191,7 +202,8 @@ pub record IsFirstFault (v : ℕ) (before : List Command) (n : ℕ) (lines : Lis
   pub first : HasFirstFault v before n lines m kind
 
 -- the grammar's fault is the first one
-pub script_from-fault_is_first : (v : ℕ) (before : List Command) (n : ℕ) (lines : List (List ℕ)) (fault : ScriptFault) → script_from v before n lines ≡ Err fault → IsFirstFault v before n lines fault
+pub script_from-fault_is_first : (v : ℕ) (before : List Command) (n : ℕ) (lines : List (List ℕ)) (fault : ScriptFault) →
+    script_from v before n lines ≡ Err fault → IsFirstFault v before n lines fault
 script_from-fault_is_first v before n [] fault is = absurd (cc)
 script_from-fault_is_first v before n (line ∷ more) fault is = elim (cases_Bool (is_skipped (words line))) [
   | inl skipped ↦
@@ -201,12 +213,19 @@ script_from-fault_is_first v before n (line ∷ more) fault is = elim (cases_Boo
     | inl here ↦ record { m = n; kind = here.0; is = here.2; first = HasFirstFault-first v before n line more here.0 kept here.1 }
     | inr there ↦
         let behind = script_from-fault_is_first v (before ++ there.0 ∷ []) (n + 1) more fault there.2 in
-        record { m = behind.m; kind = behind.kind; is = behind.is; first = HasFirstFault-command v before n line more there.0 behind.m behind.kind kept there.1 behind.first }
+        record {
+          m = behind.m;
+          kind = behind.kind;
+          is = behind.is;
+          first =
+              HasFirstFault-command v before n line more there.0 behind.m behind.kind kept there.1 behind.first;
+        }
   ]
 ]
 
 -- the first fault, by its line and kind
-pub first_fault : (v : ℕ) (before : List Command) (n : ℕ) (lines : List (List ℕ)) (m : ℕ) (kind : FaultKind) → script_from v before n lines ≡ Err (Line m kind) → HasFirstFault v before n lines m kind
+pub first_fault : (v : ℕ) (before : List Command) (n : ℕ) (lines : List (List ℕ)) (m : ℕ) (kind : FaultKind) →
+    script_from v before n lines ≡ Err (Line m kind) → HasFirstFault v before n lines m kind
 first_fault v before n lines m kind is =
     let found = script_from-fault_is_first v before n lines (Line m kind) is in
     let fault : Line m kind ≡ Line found.m found.kind = found.is in

@@ -1,7 +1,6 @@
 -- The lemmas on scripts.
 mod ScriptLemmas
 mod PlaceLemmas
-mod WordLemmas
 mod GrammarLemmas
 mod ReadingLemmas
 mod LawLemmas

@@ -11,7 +11,8 @@ use Rattle.go_script.specs.Places.{view_after, holds_view}
 use Rattle.go_script.specs.Held.{Tells}
 
 -- whether a place holds a view after one more command
-pub holds_view-push : (k : ℕ) (commands : List Command) (command : Command) → holds_view k (commands ++ command ∷ []) ≡ view_after k (holds_view k commands) command
+pub holds_view-push : (k : ℕ) (commands : List Command) (command : Command) →
+    holds_view k (commands ++ command ∷ []) ≡ view_after k (holds_view k commands) command
 holds_view-push k commands command = fold-append (view_after k) false commands (command ∷ [])
 
 -- what stands in a list after a write
@@ -26,7 +27,9 @@ slice_get-set xs i k b here =
     ∙ ap (λ (c : Bool). Some c) (get_or-set_true xs i k b within (get_or_from_slice_get xs k b false here))
 
 -- the table after one more view
-pub Tells-view : (held : List Bool) (place : ℕ) (before : List Command) → Tells (record { held = held }) before → Tells (record { held = set held place true }) (before ++ View place ∷ [])
+pub Tells-view : (held : List Bool) (place : ℕ) (before : List Command) → Tells (record { held = held }) before →
+    Tells (record { held = set held place true }) (before ++ View place ∷ [])
 Tells-view held place before tells = record {
-  each = λ k below. slice_get-set held place k (holds_view k before) (tells.each k below) ∙ ap (λ (b : Bool). Some b) (sym (holds_view-push k before (View place)));
+  each = λ k below. slice_get-set held place k (holds_view k before) (tells.each k below)
+      ∙ ap (λ (b : Bool). Some b) (sym (holds_view-push k before (View place)));
 }

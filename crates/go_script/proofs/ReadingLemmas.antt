@@ -1,5 +1,6 @@
 -- How far a reading of a text has come, step by step.
-use Rattle.std.proofs.Common.{◌≡◌, ℕ, ◌+◌, ◌-◌, ◌≤◌, List, [], ◌∷◌, ◌++◌, length, take, drop, Result, Ok, Err, Some, refl, sym, ap, ◌∙◌, append_assoc, subst, arith}
+use Rattle.std.proofs.Common.{◌≡◌, ℕ, ◌+◌, ◌-◌, ◌≤◌, List, [], ◌∷◌, ◌++◌, length, take, drop, Result, Ok, Err, Some, refl, sym, ap, ◌∙◌, append_assoc}
+use Rattle.std.proofs.Common.{subst, arith}
 use Rattle.std.specs.Str.Lines.{lines}
 use Rattle.go_text.specs.Line.{IsNextLine}
 use Rattle.go_text.specs.Word.{words}
@@ -13,7 +14,7 @@ use Rattle.go_script.specs.declared.fault.ScriptFault.TheVariants as faults
 use Rattle.go_script.specs.Grammar.{line_of, script_from, script_of}
 use Rattle.go_script.specs.Held.{Tells}
 use Rattle.go_script.specs.Places.{IsWithin, NamesBelow, commands_of}
-use Rattle.go_script.specs.Steps.{◌>>=◌}
+use Rattle.go_text.specs.Steps.{◌>>=◌}
 use Rattle.go_script.proofs.GrammarLemmas.{script_from-fault, script_from-command}
 use Rattle.go_script.proofs.ScriptLemmas.{commands_of-push, IsWithin_push}
 

@@ -31,7 +31,8 @@ commands_of-push [] step = refl
 commands_of-push (s ∷ steps) step = ap (λ l. s.command ∷ l) (commands_of-push steps step)
 
 -- steps with one more that fits
-pub steps_push : (steps : List Step) (step : Step) → IsScript (commands_of steps) → Fits (commands_of steps) step.command → IsScript (commands_of (steps ++ step ∷ []))
+pub steps_push : (steps : List Step) (step : Step) → IsScript (commands_of steps) → Fits (commands_of steps) step.command →
+    IsScript (commands_of (steps ++ step ∷ []))
 steps_push steps step script fits = rw (commands_of-push steps step) (IsScript_push (commands_of steps) step.command script fits)
 
 -- commands below a number with one more

@@ -1,7 +1,8 @@
 -- The grammar of scripts: how the words of a line are read as a command, and the lines of a text as steps.
-use Rattle.std.specs.Prelude.{◌≡◌, ℕ, ◌+◌, ◌==◌, Bool, true, List, [], ◌∷◌, ◌++◌, Option, Some, None, Result, Ok, Err, codes, slice_index, if◌then◌else◌}
+use Rattle.std.specs.Prelude.{◌≡◌, ℕ, ◌+◌, ◌-◌, ◌==◌, Bool, true, List, [], ◌∷◌, ◌++◌, Option, Some, None, Result, Ok, Err, codes, slice_index, if◌then◌else◌}
 use Rattle.std.specs.Str.{bytes_eq}
 use Rattle.std.specs.Str.Lines.{lines}
+use Rattle.go_api.specs.declared.place.TheConstants.{PLACES}
 use Rattle.go_text.specs.Word.{words}
 use Rattle.go_text.specs.declared.faults.FaultKind.{FaultKind}
 use Rattle.go_text.specs.declared.faults.FaultKind.TheVariants.{Word, Count, Place}
@@ -11,14 +12,10 @@ use Rattle.go_script.specs.declared.line.Ends.{Ends}
 use Rattle.go_script.specs.declared.step.Step.{Step}
 use Rattle.go_script.specs.declared.fault.ScriptFault.{ScriptFault}
 use Rattle.go_script.specs.declared.fault.ScriptFault.TheVariants.{Line, Memory}
-use Rattle.go_script.specs.Arguments.{number_in, vertex_in}
+use Rattle.go_text.specs.Arguments.{number_in, vertex_in}
 use Rattle.go_script.specs.Places.{finds_place}
-use Rattle.go_script.specs.Steps.{◌>>=◌}
-
--- a line is skipped where it has no word, or its first word begins with '#'
-abbrev pub is_skipped : List (List ℕ) → Bool
-is_skipped [] = true
-is_skipped (word ∷ arguments) = slice_index word 0 == 35
+use Rattle.go_text.specs.Steps.{◌>>=◌}
+use Rattle.go_text.specs.Texts.{is_skipped}
 
 -- the vertices of an edge, each below v
 abbrev pub ends_of : ℕ → List (List ℕ) → Result Ends FaultKind
@@ -33,14 +30,18 @@ add_of v arguments = ends_of v arguments >>= λ ends. Ok (Add ends.src ends.dst)
 abbrev pub del_of : ℕ → List (List ℕ) → Result Command FaultKind
 del_of v arguments = ends_of v arguments >>= λ ends. Ok (Del ends.src ends.dst)
 
--- `view` has a place, 0 to 3
+-- the place that a word names: 0 or above, and below the number of places
+abbrev pub place_in : List ℕ → Result ℕ FaultKind
+place_in word = number_in (PLACES - 1) word
+
+-- `view` has a place
 abbrev pub view_of : List (List ℕ) → Result Command FaultKind
-view_of (place ∷ []) = number_in 3 place >>= λ k. Ok (View k)
+view_of (place ∷ []) = place_in place >>= λ k. Ok (View k)
 view_of _ = Err Count
 
 -- `neigh` has a place and a vertex
 abbrev pub neigh_of : ℕ → List (List ℕ) → Result Command FaultKind
-neigh_of v (place ∷ vertex ∷ []) = number_in 3 place >>= λ k. vertex_in v vertex >>= λ s. Ok (Neigh k s)
+neigh_of v (place ∷ vertex ∷ []) = place_in place >>= λ k. vertex_in v vertex >>= λ s. Ok (Neigh k s)
 neigh_of v _ = Err Count
 
 -- the command that a word asks for, with its arguments

@@ -1,5 +1,6 @@
 -- The places at which a session keeps its views: what each command needs of its place, and what it leaves there.
 use Rattle.std.specs.Prelude.{◌≡◌, ℕ, ◌<◌, ◌==◌, Bool, true, false, not, ◌||◌, List, fold, map, take, slice_get, Some}
+use Rattle.go_api.specs.declared.place.TheConstants.{PLACES}
 use Rattle.go_script.specs.declared.command.Command.{Command}
 use Rattle.go_script.specs.declared.command.Command.TheVariants.{Add, Del, View, Neigh}
 use Rattle.go_script.specs.declared.step.Step.{Step}
@@ -26,19 +27,19 @@ finds_place before (Neigh place vertex) = holds_view place before
 abbrev pub commands_of : List Step → List Command
 commands_of steps = map (λ step. step.command) steps
 
--- the place that a command names, where it names one, is one of the four
+-- the place that a command names, where it names one, is one of those that a session has
 abbrev pub NamesPlace : Command → Type 0
 NamesPlace (Add src dst) = Unit {0}
 NamesPlace (Del src dst) = Unit {0}
-NamesPlace (View place) = place < 4
-NamesPlace (Neigh place vertex) = place < 4
+NamesPlace (View place) = place < PLACES
+NamesPlace (Neigh place vertex) = place < PLACES
 
 -- what holds of each command of a script, after the commands before it
 pub record Fits (before : List Command) (command : Command) : Type 0 where
   pub names : NamesPlace command
   pub finds : finds_place before command ≡ true
 
--- each command of a script names one of the four places, where it names one, and finds it as it needs it
+-- each command of a script names one of the session's places, where it names one, and finds it as it needs it
 pub record IsScript (commands : List Command) : Type 0 where
   pub each : (k : ℕ) (command : Command) → slice_get commands k ≡ Some command → Fits (take k commands) command
 

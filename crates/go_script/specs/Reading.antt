@@ -4,7 +4,8 @@ use Rattle.go_text.specs.Word.{words}
 use Rattle.go_text.specs.declared.faults.FaultKind.{FaultKind}
 use Rattle.go_script.specs.declared.command.Command.{Command}
 use Rattle.go_script.specs.declared.step.Step.{Step}
-use Rattle.go_script.specs.Grammar.{is_skipped, command_after}
+use Rattle.go_script.specs.Grammar.{command_after}
+use Rattle.go_text.specs.Texts.{is_skipped}
 use Rattle.go_script.specs.Places.{commands_of}
 
 -- among lines that are numbered from n, line m is one that isn't skipped, and reads as that after the commands before it

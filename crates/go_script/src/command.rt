@@ -5,7 +5,7 @@
 pub enum Command {
     /// Adds an edge.
     Add { src: u32, dst: u32 },
-    /// Deletes an edge: of those that are there, the one that was added last.
+    /// Deletes an edge: of those that are there, the one that was added first.
     Del { src: u32, dst: u32 },
     /// Takes a view of the log as it stands, and keeps it at a place.
     View { place: u8 },

@@ -4,13 +4,16 @@ ghost use Rattle.go_script.specs.declared.fault.ScriptFault.TheVariants.{Memory}
 
 use go_text::FaultKind;
 use std::alloc::AllocError;
+use thiserror::Error;
 
 /// Why a text is no script.
-#[derive(Clone, Copy, Debug, PartialEq, Eq)]
+#[derive(Clone, Copy, Debug, Error, PartialEq, Eq)]
 pub enum ScriptFault {
     /// The first line with a fault, counted from 1, and the kind of its first fault.
+    #[error("a line of the script has a fault")]
     Line { line: u64, kind: FaultKind },
     /// There isn't enough memory.
+    #[error("out of memory")]
     Memory,
 }
 

@@ -19,7 +19,6 @@ mod parsing;
 mod places;
 mod script;
 mod step;
-mod words;
 
 pub use command::Command;
 pub use fault::ScriptFault;

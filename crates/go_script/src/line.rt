@@ -2,16 +2,15 @@
 ghost use Rattle.std.specs.Prelude.{◌≡◌, ◌<◌, List, IfOk, IfSome};
 ghost use Rattle.go_text.specs.Word.{words};
 ghost use Rattle.go_script.specs.declared.command.Command.{Command as AnyCommand};
-ghost use Rattle.go_script.specs.Grammar.{is_skipped, ends_of, add_of, del_of, view_of, neigh_of, command_of, line_of};
+ghost use Rattle.go_script.specs.Grammar.{ends_of, add_of, del_of, view_of, neigh_of, command_of, line_of};
 ghost use Rattle.go_script.specs.Held.{Tells};
 ghost use Rattle.go_script.specs.Places.{NamesPlace, NamesBelow};
-ghost use Rattle.go_script.specs.Texts.{texts};
+ghost use Rattle.go_text.specs.Texts.{texts};
 
-use crate::arguments::{read_place, read_vertex};
+use crate::arguments::read_place;
 use crate::command::Command;
 use crate::places::Places;
-use crate::words::words_of;
-use go_text::FaultKind;
+use go_text::{FaultKind, FirstWords, is_skipped, read_vertex};
 
 // The vertices at which an edge begins and ends.
 #[derive(Clone, Copy)]
@@ -26,7 +25,7 @@ pub fn read_line(line: &[u8], vertices: u32, places: &Places) -> Result<Option<C
     ensures place { IfOk result (λ command. IfSome command NamesPlace) }
     ensures below { IfOk result (λ command. IfSome command (NamesBelow vertices)) }
 {
-    read_words(words_of(line).as_slice(), vertices, places)
+    read_words(FirstWords::of(line).as_slice(), vertices, places)
 }
 
 // What a line with these words writes.
@@ -43,17 +42,6 @@ fn read_words(words: &[&[u8]], vertices: u32, places: &Places) -> Result<Option<
         Ok(Some(command))
     } else {
         Err(FaultKind::Place)
-    }
-}
-
-// Whether a line with these words is skipped: it has none, or is a comment.
-fn is_skipped(words: &[&[u8]]) -> bool
-    ensures { result ≡ is_skipped (texts words.now) }
-{
-    match words {
-        [] => true,
-        [[b'#', ..], ..] => true,
-        _ => false,
     }
 }
 

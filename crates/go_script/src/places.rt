@@ -5,11 +5,12 @@ ghost use Rattle.go_script.specs.Places.{NamesPlace, finds_place};
 ghost use Rattle.go_script.specs.Held.{Tells};
 
 use crate::command::Command;
+use go_api::PLACES;
 
 // Which places hold a view after the commands that were read.
 #[derive(Clone, Copy)]
 pub struct Places {
-    pub held: [bool; 4],
+    pub held: [bool; PLACES],
 }
 
 impl Places {
@@ -17,7 +18,9 @@ impl Places {
     pub fn new() -> Places
         ensures { Tells result [] }
     {
-        Places { held: [false; 4] }
+        Places {
+            held: [false; PLACES],
+        }
     }
 
     // Whether a command finds its place as it needs it.

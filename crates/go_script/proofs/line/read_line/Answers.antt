@@ -8,5 +8,5 @@ use Rattle.go_script.proofs.line.read_line.Goals as goal
 pub returns-clause-exact : goal.returns-clause-exact
 returns-clause-exact c = λ before tells.
     c.read_words.ensures.exact before tells
-    ∙ ap (λ (ws : List (List ℕ)). line_of c.args.vertices before ws) (c.as_slice.ensures ∙ c.words_of.ensures)
+    ∙ ap (λ (ws : List (List ℕ)). line_of c.args.vertices before ws) (c.as_slice.ensures ∙ c.of.ensures)
     ∙ line_of-take c.args.vertices before (words c.args.line.now)

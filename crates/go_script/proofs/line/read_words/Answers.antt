@@ -1,6 +1,6 @@
 -- A fault of the command is the fault of the line.
 use Rattle.std.proofs.lemmas.Result.{err_from_is_err_and}
-use Rattle.go_script.specs.Texts.{texts}
+use Rattle.go_text.specs.Texts.{texts}
 use Rattle.go_script.proofs.GrammarLemmas.{line_of-fault}
 use Rattle.go_script.proofs.line.read_words.Goals as goal
 

@@ -16,7 +16,8 @@ loop-line-preserved c =
     let tells = c.loop-line.invariant.tells in
     let read = c.in-Ok-Some.ensures.exact (commands_of c.loop-line.script) tells in
     rw c.in_ok-push-in-Ok-Some.ensures.ok
-    (SoFar_command c.args.v c.args.text.now c.loop-line.places c.take.new.self c.loop-line.script c.loop-line.number c.loop-line.from c.in-Some.line c.in-Ok-Some.command
+    (SoFar_command c.args.v c.args.text.now c.loop-line.places c.take.new.self
+    c.loop-line.script c.loop-line.number c.loop-line.from c.in-Some.line c.in-Ok-Some.command
     c.loop-line.invariant c.in-Some.ensures.splits
     (sym (rw c.in-Ok-Some.field-0-is at read))
     (rw c.in-Ok-Some.field-0-is at c.in-Ok-Some.ensures.below)
@@ -27,5 +28,6 @@ push-requires c =
     let read = c.in-Ok-Some.ensures.exact (commands_of c.loop-line.script) c.loop-line.invariant.tells in
     record {
       names = rw c.in-Ok-Some.field-0-is at c.in-Ok-Some.ensures.place;
-      finds = line_of-finds c.args.v (commands_of c.loop-line.script) (words (bytes_of c.args.text.now c.in-Some.line)) c.in-Ok-Some.command (sym (rw c.in-Ok-Some.field-0-is at read));
+      finds = line_of-finds c.args.v (commands_of c.loop-line.script) (words (bytes_of c.args.text.now c.in-Some.line)) c.in-Ok-Some.command
+          (sym (rw c.in-Ok-Some.field-0-is at read));
     }

@@ -1,7 +1,0 @@
--- The texts that a list of borrowed words has.
-use Rattle.std.specs.Prelude.{ℕ, List, map}
-use Rattle.std.specs.Borrow.{Bor}
-
--- the bytes of each word, in order
-abbrev pub texts : List (Bor (List ℕ)) → List (List ℕ)
-texts words = map (λ word. word.now) words
