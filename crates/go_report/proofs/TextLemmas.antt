@@ -9,7 +9,8 @@ pub texts_of-append : (first second : List Reply) → texts_of (first ++ second)
 texts_of-append first second = flat_map-append text_of first second
 
 -- the text of a session after further replies
-pub text_of_session-append : (session : ℕ) (first second : List Reply) → text_of_session session (first ++ second) ≡ text_of_session session first ++ texts_of second
+pub text_of_session-append : (session : ℕ) (first second : List Reply) →
+    text_of_session session (first ++ second) ≡ text_of_session session first ++ texts_of second
 text_of_session-append session first second =
     ap (λ (text : List ℕ). heading_of session ++ text) (texts_of-append first second)
     ∙ sym (append_assoc (heading_of session) (texts_of first) (texts_of second))
