@@ -2,9 +2,10 @@
 use Rattle.std.proofs.Common.{◌≡◌, ℕ, zero, suc, ◌<◌, ◌≤◌, ◌^◌, List, [], ◌∷◌, length, slice_get, Some, refl, arith}
 use Rattle.std.proofs.lemmas.List.Elements.{All-from_recursion}
 use Rattle.std.specs.Prelude.{All}
+use Rattle.go_api.specs.declared.place.TheConstants.{PLACES}
 use Rattle.go_word.specs.declared.edge.Edge.{Edge}
 use Rattle.go_word.specs.Log.{IsWithin as IsEntryWithin}
-use Rattle.go_api.specs.Standing.{IsSound, ShowsSeen, unused}
+use Rattle.go_api.specs.Standing.{IsSound, ShowsSeen, all_free, unused}
 use Rattle.go_api.specs.declared.place.Place.{Place}
 use Rattle.go_api.specs.declared.place.Place.TheVariants.{Free}
 use Rattle.go_script.specs.declared.command.Command.{Command}
@@ -12,11 +13,7 @@ use Rattle.go_script.specs.Places.{IsWithin, IsScript}
 use Rattle.go_session.specs.Puts.{puts_of}
 use Rattle.go_session.specs.Session.{unanswered, CanGoOn}
 
--- four free places
-abbrev pub all_free : List Place
-all_free = Free ∷ Free ∷ Free ∷ Free ∷ []
-
-free_at : (k : ℕ) → k < 4 → slice_get all_free k ≡ Some Free
+free_at : (k : ℕ) → k < PLACES → slice_get all_free k ≡ Some Free
 free_at zero below = refl
 free_at (suc zero) below = refl
 free_at (suc (suc zero)) below = refl
@@ -26,15 +23,9 @@ free_at (suc (suc (suc (suc k)))) below = absurd (omega arith)
 -- a store of which no call was asked is sound
 pub unused_sound : (v : ℕ) (log : List Edge) (quota : ℕ) → All (IsEntryWithin v) log → length log < 2 ^ 32 → IsSound (unused v log quota)
 unused_sound v log quota ids short = record {
-  old_seen = omega arith;
-  floor_seen = omega arith;
-  seen_known = omega arith;
-  short = short;
-  ids = ids;
-  own_rises = tt;
-  own_known = All-from_recursion (λ p. p < length log) [] tt;
-  own_put = refl;
-  four = refl;
+  sees = record { old_seen = omega arith; floor_seen = omega arith; seen_known = omega arith; short = short; ids = ids };
+  owns = record { rises = tt; known = All-from_recursion (λ p. p < length log) [] tt; put = refl };
+  count = refl;
   shown = All-from_recursion (ShowsSeen (length log)) all_free (tt, (tt, (tt, (tt, tt))));
 }
 
@@ -44,15 +35,12 @@ pub can_begin : (number : ℕ) (commands : List Command) (v : ℕ) (log : List E
 can_begin number commands v log quota ids short below script few = record {
   at = record {
     sound = unused_sound v log quota ids short;
-    below = below;
-    script = script;
-    some = omega arith;
+    follows = record { below = below; script = script; some = omega arith };
     allowed = tt;
     used = refl;
     seen = omega arith;
     put = refl;
-    places = λ k below. free_at k below;
-    held = λ k below. refl;
+    views = record { places = λ k below. free_at k below; held = λ k below. refl };
   };
   quota = few;
 }

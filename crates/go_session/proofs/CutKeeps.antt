@@ -1,5 +1,6 @@
 -- A cut of replies holds no reply on the log's first entries back.
-use Rattle.std.proofs.Common.{◌≡◌, ℕ, zero, suc, ◌+◌, ◌<◌, ◌≤◌, Bool, true, false, List, [], ◌∷◌, length, slice_get, fold, Option, Some, None, unwrap_or, refl, arith, sym, subst, inl, inr}
+use Rattle.std.proofs.Common.{◌≡◌, ℕ, zero, suc, ◌+◌, ◌<◌, ◌≤◌, Bool, true, false, List, [], ◌∷◌, length, slice_get, fold, Option, Some, None, unwrap_or}
+use Rattle.std.proofs.Common.{refl, arith, sym, subst, inl, inr}
 use Rattle.std.proofs.lemmas.Bool.Decides.{leb_tells}
 use Rattle.std.proofs.lemmas.Option.{slice_get_within}
 use Rattle.go_api.specs.Laid.{Rises}
@@ -42,7 +43,8 @@ record HasSeenFronts (walk : Walk) : Type 0 where
   pub each : (k n : ℕ) → walk.front_at k ≡ Some n → n ≤ walk.seen
 
 -- the replies after one
-uses_rest : (world : World) (walk : Walk) (r other : Reply) (replies : List Reply) → r ≡ other → UsesAll world walk (r ∷ replies) → UsesAll world (after walk other) replies
+uses_rest : (world : World) (walk : Walk) (r other : Reply) (replies : List Reply) → r ≡ other → UsesAll world walk (r ∷ replies) →
+    UsesAll world (after walk other) replies
 uses_rest world walk r other replies is uses = record {
   first = uses.first;
   rises = uses.rises;
@@ -55,7 +57,8 @@ placed_order : (world : World) (walk : Walk) (del : Bool) (reply : Reply) (repli
 placed_order world walk del reply replies k p uses is later here = rises_order uses.first world.own walk.used k is.0 p uses.rises later is.2 here
 
 -- each own position that replies have still to use is at or above what was seen
-seen_below : (world : World) (walk : Walk) (commands : List Command) (replies : List Reply) (k p : ℕ) → UsesAll world walk replies → Replies world walk commands replies →
+seen_below : (world : World) (walk : Walk) (commands : List Command) (replies : List Reply) (k p : ℕ) → UsesAll world walk replies →
+    Replies world walk commands replies →
     walk.used ≤ k → slice_get world.own k ≡ Some p → walk.seen ≤ p
 seen_below world walk commands [] k p uses allowed later here = absurd (omega (arith, uses.all, later, slice_get_within world.own k p here))
 seen_below world walk [] (r ∷ replies) k p uses allowed later here = absurd allowed
@@ -67,29 +70,44 @@ seen_below world walk (View place ∷ commands) (r ∷ replies) k p uses allowed
     let n = allowed.0.0 in
     let is = allowed.0.1 in
     let rest = subst (λ (x : Reply). Replies world (after walk x) commands replies) is allowed.1 in
-    omega (arith, allowed.0.2.not_older, seen_below world (after walk (Viewed place n)) commands replies k p (uses_rest world walk r (Viewed place n) replies is uses) rest later here)
+    omega (
+      arith,
+      allowed.0.2.not_older,
+      seen_below world (after walk (Viewed place n)) commands replies k p
+          (uses_rest world walk r (Viewed place n) replies is uses) rest later here,
+    )
 seen_below world walk (Neigh place vertex ∷ commands) (r ∷ replies) k p uses allowed later here =
     let is = allowed.0.2 in
     let rest = subst (λ (x : Reply). Replies world (after walk x) commands replies) is allowed.1 in
     seen_below world walk commands replies k p (uses_rest world walk r _ replies is uses) rest later here
 
 -- a reply that rests on more than so many entries: no own position among these is used by it or later
-placed_above : (d : ℕ) (world : World) (walk : Walk) (command : Command) (del : Bool) (r : Reply) (replies : List Reply) (k p : ℕ) → UsesAll world walk (r ∷ replies) →
+placed_above : (d : ℕ) (world : World) (walk : Walk) (command : Command) (del : Bool) (r : Reply) (replies : List Reply) (k p : ℕ) →
+    UsesAll world walk (r ∷ replies) →
     IsPlaced world walk del r → d < rest_of walk.front_at command r → walk.used ≤ k → slice_get world.own k ≡ Some p → d ≤ p
 placed_above d world walk command del r replies k p uses is rests later here =
     let more : d < rest_of walk.front_at command (showing del is.0) = subst (λ (x : Reply). d < rest_of walk.front_at command x) is.1 rests in
     omega (arith, more, rest_of-showing walk.front_at command del is.0, placed_order world walk del r (r ∷ replies) k p uses is later here)
 
-used_above : (d : ℕ) (world : World) (walk : Walk) (c : Command) (commands : List Command) (r : Reply) (replies : List Reply) (k p : ℕ) → UsesAll world walk (r ∷ replies) →
-    HasSeenFronts walk → Replies world walk (c ∷ commands) (r ∷ replies) → d < rest_of walk.front_at c r → walk.used ≤ k → slice_get world.own k ≡ Some p → d ≤ p
-used_above d world walk (Add src dst) commands r replies k p uses fronts allowed rests later here = placed_above d world walk (Add src dst) false r replies k p uses allowed.0 rests later here
-used_above d world walk (Del src dst) commands r replies k p uses fronts allowed rests later here = placed_above d world walk (Del src dst) true r replies k p uses allowed.0 rests later here
+used_above : (d : ℕ) (world : World) (walk : Walk) (c : Command) (commands : List Command) (r : Reply) (replies : List Reply) (k p : ℕ) →
+    UsesAll world walk (r ∷ replies) →
+    HasSeenFronts walk → Replies world walk (c ∷ commands) (r ∷ replies) → d < rest_of walk.front_at c r → walk.used ≤ k → slice_get world.own k ≡ Some p →
+    d ≤ p
+used_above d world walk (Add src dst) commands r replies k p uses fronts allowed rests later here =
+    placed_above d world walk (Add src dst) false r replies k p uses allowed.0 rests later here
+used_above d world walk (Del src dst) commands r replies k p uses fronts allowed rests later here =
+    placed_above d world walk (Del src dst) true r replies k p uses allowed.0 rests later here
 used_above d world walk (View place) commands r replies k p uses fronts allowed rests later here =
     let n = allowed.0.0 in
     let is = allowed.0.1 in
     let more : d < n = subst (λ (x : Reply). d < rest_of walk.front_at (View place) x) is rests in
     let rest = subst (λ (x : Reply). Replies world (after walk x) commands replies) is allowed.1 in
-    omega (arith, more, seen_below world (after walk (Viewed place n)) commands replies k p (uses_rest world walk r (Viewed place n) replies is uses) rest later here)
+    omega (
+      arith,
+      more,
+      seen_below world (after walk (Viewed place n)) commands replies k p
+          (uses_rest world walk r (Viewed place n) replies is uses) rest later here,
+    )
 used_above d world walk (Neigh place vertex) commands r replies k p uses fronts allowed rests later here =
     let n = allowed.0.0 in
     let at = allowed.0.1 in
@@ -107,7 +125,8 @@ fronts_go_on world walk (View place) r fronts is = subst (λ (x : Reply). HasSee
 fronts_go_on world walk (Neigh place vertex) r fronts is = subst (λ (x : Reply). HasSeenFronts (after walk x)) (sym is.2) fronts
 
 -- the same from any walk on
-keeps_from : (d : ℕ) (world : World) (walk : Walk) (commands : List Command) (replies : List Reply) (k p : ℕ) → UsesAll world walk replies → HasSeenFronts walk →
+keeps_from : (d : ℕ) (world : World) (walk : Walk) (commands : List Command) (replies : List Reply) (k p : ℕ) → UsesAll world walk replies →
+    HasSeenFronts walk →
     Replies world walk commands replies → (fold after walk (cut_from d walk.front_at commands replies)).used ≤ k → slice_get world.own k ≡ Some p → d ≤ p
 keeps_from d world walk commands [] k p uses fronts allowed later here = absurd (omega (arith, uses.all, later, slice_get_within world.own k p here))
 keeps_from d world walk [] (r ∷ replies) k p uses fronts allowed later here = absurd allowed
@@ -115,7 +134,8 @@ keeps_from d world walk (c ∷ commands) (r ∷ replies) k p uses fronts allowed
     elim (leb_tells (rest_of walk.front_at c r) d) [
       | inl h ↦
           let more : (fold after (after walk r) (cut_from d (fronts_after walk.front_at r) commands replies)).used ≤ k = rw h.0 at later in
-          keeps_from d world (after walk r) commands replies k p (uses_rest world walk r r replies refl uses) (fronts_go_on world walk c r fronts allowed.0) allowed.1
+          keeps_from d world (after walk r) commands replies k p (uses_rest world walk r r replies refl uses)
+          (fronts_go_on world walk c r fronts allowed.0) allowed.1
           (subst (λ (f : ℕ → Option ℕ). (fold after (after walk r) (cut_from d f commands replies)).used ≤ k) (sym (front_at-after walk r)) more) here
       | inr h ↦
           let more : walk.used ≤ k = rw h.0 at later in

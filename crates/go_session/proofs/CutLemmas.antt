@@ -1,9 +1,11 @@
 -- Lemmas on the replies that rest on a prefix of the log.
-use Rattle.std.proofs.Common.{◌≡◌, ℕ, zero, suc, ◌+◌, ◌<◌, ◌≤◌, nat_le, true, false, List, [], ◌∷◌, ◌++◌, length, take, drop, slice_get, slice_set, fold, Option, Some, None, refl, ap, arith, sym, subst, ◌∙◌, inl, inr, append_assoc, append-nil}
+use Rattle.std.proofs.Common.{◌≡◌, ℕ, zero, suc, ◌+◌, ◌<◌, ◌≤◌, nat_le, true, false, List, [], ◌∷◌, ◌++◌, length, take, drop, slice_get, slice_set, fold}
+use Rattle.std.proofs.Common.{Option, Some, None, refl, ap, arith, sym, subst, ◌∙◌, inl, inr, append_assoc, append-nil}
 use Rattle.std.proofs.lemmas.Bool.Decides.{eqb_tells}
 use Rattle.std.proofs.lemmas.List.{take_more, take_all, drop_all}
 use Rattle.std.proofs.lemmas.List.Sums.{fold-append}
 use Rattle.std.proofs.lemmas.Option.{slice_get_within, get_or_from_slice_get}
+use Rattle.go_api.specs.declared.place.TheConstants.{PLACES}
 use Rattle.go_script.specs.declared.command.Command.{Command}
 use Rattle.go_report.specs.declared.reply.Reply.{Reply}
 use Rattle.go_report.specs.declared.reply.Reply.TheVariants.{Viewed}
@@ -26,7 +28,7 @@ cut_begins durable commands replies = record {
   so_far = refl;
   fronts_so = record { each = λ k below. four_free k below };
 } where
-  four_free : (k : ℕ) → k < 4 → slice_get (None ∷ None ∷ None ∷ None ∷ []) k ≡ Some (let free : Option ℕ = None in free)
+  four_free : (k : ℕ) → k < PLACES → slice_get (None ∷ None ∷ None ∷ None ∷ []) k ≡ Some (let free : Option ℕ = None in free)
   four_free zero below = refl
   four_free (suc zero) below = refl
   four_free (suc (suc zero)) below = refl
@@ -38,7 +40,8 @@ take_reply : (replies : List Reply) (i : ℕ) (reply : Reply) → slice_get repl
 take_reply replies i reply here =
     take_more replies i reply (slice_get_within replies i reply here) ∙ rw (get_or_from_slice_get replies i reply reply here) refl
 
-fronts_push : (replies : List Reply) (i : ℕ) (reply : Reply) → slice_get replies i ≡ Some reply → fronts_of (take (i + 1) replies) ≡ fronts_after (fronts_of (take i replies)) reply
+fronts_push : (replies : List Reply) (i : ℕ) (reply : Reply) → slice_get replies i ≡ Some reply →
+    fronts_of (take (i + 1) replies) ≡ fronts_after (fronts_of (take i replies)) reply
 fronts_push replies i reply here = ap fronts_of (take_reply replies i reply here) ∙ fold-append fronts_after no_fronts (take i replies) (reply ∷ [])
 
 -- what is shown from a reply on that rests on the prefix
@@ -49,7 +52,8 @@ cut_step durable front_at commands left replies rest command reply asked here re
 
 -- and from one that rests on more
 cut_stop : (durable : ℕ) (front_at : ℕ → Option ℕ) (commands left : List Command) (replies rest : List Reply) (command : Command) (reply : Reply) →
-    commands ≡ command ∷ left → replies ≡ reply ∷ rest → nat_le (rest_of front_at command reply) durable ≡ false → cut_from durable front_at commands replies ≡ []
+    commands ≡ command ∷ left → replies ≡ reply ∷ rest → nat_le (rest_of front_at command reply) durable ≡ false →
+    cut_from durable front_at commands replies ≡ []
 cut_stop durable front_at commands left replies rest command reply asked here rests = rw (asked, here) (rw rests refl)
 
 -- one reply more rests on the prefix
@@ -93,7 +97,8 @@ pub noted : (front_at : ℕ → Option ℕ) (fronts : List (Option ℕ)) (place 
 noted front_at fronts place front has inside = record {
   each = λ k below.
       elim (eqb_tells k place) [
-        | inl h ↦ rw h.0 (subst (λ (j : ℕ). slice_get (slice_set fronts place (Some front)) j ≡ Some (Some front)) (sym h.1) (slice_get_replaced fronts place (Some front) inside))
+        | inl h ↦ rw h.0 (subst (λ (j : ℕ). slice_get (slice_set fronts place (Some front)) j
+            ≡ Some (Some front)) (sym h.1) (slice_get_replaced fronts place (Some front) inside))
         | inr h ↦ rw h.0 (slice_get_beside fronts place k (Some front) (λ same. h.1 (sym same)) ∙ has.each k below)
       ];
 }

@@ -1,5 +1,6 @@
 -- What a cut of allowed replies comes to: the walk allows it over each world that agrees on the log's first entries, and it holds no reply on these back.
-use Rattle.std.proofs.Common.{◌≡◌, ℕ, ◌+◌, ◌<◌, ◌≤◌, Bool, true, false, List, [], ◌∷◌, ◌++◌, length, take, slice_get, Option, Some, None, refl, ap, arith, sym, subst, ◌∙◌, inl, inr}
+use Rattle.std.proofs.Common.{◌≡◌, ℕ, ◌+◌, ◌<◌, ◌≤◌, Bool, true, false, List, [], ◌∷◌, ◌++◌, length, take, slice_get, Option, Some, None, refl, ap, arith}
+use Rattle.std.proofs.Common.{sym, subst, ◌∙◌, inl, inr}
 use Rattle.std.proofs.lemmas.Bool.Decides.{leb_tells}
 use Rattle.std.proofs.lemmas.List.{take_more, take-take}
 use Rattle.std.proofs.lemmas.Option.{slice_get_within, get_or_from_slice_get}
@@ -52,7 +53,8 @@ front_at-after walk (Viewed place front) = refl
 front_at-after walk (Neighbours vertex list) = refl
 
 -- a position that a reply within the first entries shows is among these
-placed_below : (d : ℕ) (walk : Walk) (command : Command) (del : Bool) (p : ℕ) (reply : Reply) → reply ≡ showing del p → rest_of walk.front_at command reply ≤ d → p < d
+placed_below : (d : ℕ) (walk : Walk) (command : Command) (del : Bool) (p : ℕ) (reply : Reply) → reply ≡ showing del p →
+    rest_of walk.front_at command reply ≤ d → p < d
 placed_below d walk command del p reply is rests =
     let here : rest_of walk.front_at command (showing del p) ≤ d = subst (λ (r : Reply). rest_of walk.front_at command r ≤ d) is rests in
     omega (arith, here, rest_of-showing walk.front_at command del p)

@@ -2,6 +2,7 @@
 pub mod ListLemmas
 pub mod WalkLemmas
 pub mod StepLemmas
+pub mod ReplyLemmas
 pub mod CutLemmas
 pub mod CutWalks
 pub mod CutKeeps

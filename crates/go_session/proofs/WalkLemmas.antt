@@ -1,5 +1,6 @@
 -- Lemmas on walks: one reply more, and a world that has grown.
-use Rattle.std.proofs.Common.{◌≡◌, ℕ, ◌≤◌, ◌==◌, if◌then◌else◌, List, [], ◌∷◌, ◌++◌, length, take, slice_get, fold, Option, Some, None, Bool, length-append, arith, sym, subst, inl, inr}
+use Rattle.std.proofs.Common.{◌≡◌, ℕ, ◌≤◌, ◌==◌, if◌then◌else◌, List, [], ◌∷◌, ◌++◌, length, take, slice_get, fold, Option, Some, None, Bool, length-append}
+use Rattle.std.proofs.Common.{arith, sym, subst, inl, inr}
 use Rattle.std.proofs.lemmas.Bool.Decides.{eqb_tells}
 use Rattle.std.proofs.lemmas.List.Sums.{fold-append}
 use Rattle.std.proofs.lemmas.Option.{slice_get_within}
@@ -74,7 +75,8 @@ front_after fronts place front k n len new were at =
     ]
 
 -- a walk stays inside its world by a reply that is allowed
-pub inside_after : (world : World) (walk : Walk) (command : Command) (reply : Reply) → IsInside world walk → IsReply world walk command reply → IsInside world (after walk reply)
+pub inside_after : (world : World) (walk : Walk) (command : Command) (reply : Reply) → IsInside world walk → IsReply world walk command reply →
+    IsInside world (after walk reply)
 inside_after world walk (Add src dst) reply inside is =
     subst (λ (r : Reply). IsInside world (after walk r)) (sym is.1) (record {
       used = omega (arith, slice_get_within world.own walk.used is.0 is.2);

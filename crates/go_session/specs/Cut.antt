@@ -1,5 +1,6 @@
 -- What a reply rests on, and the first replies that rest on a prefix of the log alone.
 use Rattle.std.specs.Prelude.{◌≡◌, ℕ, ◌+◌, ◌<◌, if◌then◌else◌, nat_le, List, [], ◌∷◌, slice_get, Option, Some, None, unwrap_or}
+use Rattle.go_api.specs.declared.place.TheConstants.{PLACES}
 use Rattle.go_script.specs.declared.command.Command.{Command}
 use Rattle.go_script.specs.declared.command.Command.TheVariants.{Add, Del, View, Neigh}
 use Rattle.go_report.specs.declared.reply.Reply.{Reply}
@@ -32,6 +33,6 @@ abbrev pub shown : Option ℕ → List Command → List Reply → List Reply
 shown None commands replies = replies
 shown (Some durable) commands replies = cut_from durable no_fronts commands replies
 
--- a list has the fronts of the views at the four places
+-- a list has the fronts of the views at the places
 pub record HasFronts (front_at : ℕ → Option ℕ) (fronts : List (Option ℕ)) : Type 0 where
-  pub each : (k : ℕ) → k < 4 → slice_get fronts k ≡ Some (front_at k)
+  pub each : (k : ℕ) → k < PLACES → slice_get fronts k ≡ Some (front_at k)

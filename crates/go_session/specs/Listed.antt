@@ -2,20 +2,16 @@
 use Rattle.std.specs.Prelude.{ℕ, ◌+◌, ◌<◌, ◌^◌, false, List, length}
 use Rattle.go_word.specs.declared.edge.Edge.{Edge}
 use Rattle.go_api.specs.Alone.{positions}
-use Rattle.go_api.specs.Standing.{Standing, IsSound}
+use Rattle.go_api.specs.Standing.{Standing, IsSound, whole_log}
 use Rattle.go_api.specs.declared.place.Place.{Place}
 
 -- a list of entries as a store of 8 vertices that had none when it was opened: the one session has put and seen all
 abbrev pub listed : List Edge → ℕ → List Place → Standing
 listed log quota places = record {
-  first = 0;
-  vertices = 8;
+  terms = record { first = 0; vertices = 8 };
   own = positions 0 (length log);
   edges = log;
-  seen = log;
-  floor = length log;
-  known = length log;
-  durable = length log;
+  log = whole_log log (length log);
   quota = quota;
   places = places;
   met = false;

@@ -1,5 +1,6 @@
 -- How far a session has come, and what its store then is.
 use Rattle.std.specs.Prelude.{◌≡◌, ℕ, ◌<◌, ◌≤◌, true, List, [], ◌∷◌, ◌++◌, length, take, drop, slice_get, Option, Some, None, is_some}
+use Rattle.go_api.specs.declared.place.TheConstants.{PLACES}
 use Rattle.go_api.specs.Standing.{Standing, IsSound, Onward}
 use Rattle.go_api.specs.declared.place.Place.{Place}
 use Rattle.go_api.specs.declared.place.Place.TheVariants.{Free, View}
@@ -32,30 +33,38 @@ commands_left session = drop (length session.replies) session.commands
 
 -- what replies may speak of, as far as a handle has seen
 abbrev pub world_of : Standing → World
-world_of s = record { first = s.first; own = s.own; log = s.seen }
+world_of s = record { first = s.terms.first; own = s.own; log = s.log.seen }
 
 -- where the walk over the replies of a session stands
 abbrev pub walk_of : Standing → SessionState → Walk
-walk_of s session = walked s.first session.replies
+walk_of s session = walked s.terms.first session.replies
 
 -- what a place holds, by the front that the walk has there
 abbrev pub place_of : Option ℕ → Place
 place_of None = Free
 place_of (Some front) = View front
 
+-- a session's script is one over the vertices of its store, and no more of it was answered than there is
+pub record FollowsScript (session : SessionState) (s : Standing) : Type 0 where
+  pub below : IsWithin s.terms.vertices session.commands
+  pub script : IsScript session.commands
+  pub some : length session.replies ≤ length session.commands
+
+-- each place holds the view that the walk has there, and the answered commands have put one there just where it has one
+pub record HoldsViews (session : SessionState) (s : Standing) : Type 0 where
+  pub places : (k : ℕ) → k < PLACES → slice_get s.places k ≡ Some (place_of ((walk_of s session).front_at k))
+  pub held : (k : ℕ) → k < PLACES → holds_view k (answered_commands session) ≡ is_some ((walk_of s session).front_at k)
+
 -- a store is where the replies of a session have brought it: the walk allows them over what was seen, and own positions, entries and places are
 -- those of the answered commands
 pub record IsAt (session : SessionState) (s : Standing) : Type 0 where
   pub sound : IsSound s
-  pub below : IsWithin s.vertices session.commands
-  pub script : IsScript session.commands
-  pub some : length session.replies ≤ length session.commands
-  pub allowed : Replies (world_of s) (start s.first) session.commands session.replies
+  pub follows : FollowsScript session s
+  pub allowed : Replies (world_of s) (start s.terms.first) session.commands session.replies
   pub used : (walk_of s session).used ≡ length s.own
-  pub seen : (walk_of s session).seen ≤ s.floor
+  pub seen : (walk_of s session).seen ≤ s.log.floor
   pub put : s.edges ≡ puts_of (answered_commands session)
-  pub places : (k : ℕ) → k < 4 → slice_get s.places k ≡ Some (place_of ((walk_of s session).front_at k))
-  pub held : (k : ℕ) → k < 4 → holds_view k (answered_commands session) ≡ is_some ((walk_of s session).front_at k)
+  pub views : HoldsViews session s
 
 -- besides, the store takes all that the commands left may put
 pub record CanGoOn (session : SessionState) (s : Standing) : Type 0 where

@@ -4,6 +4,7 @@ ghost use Rattle.go_script.specs.Places.{NamesPlace, commands_of};
 ghost use Rattle.go_session.specs.Cut.{cut_from, rest_of, front_read, HasFronts};
 ghost use Rattle.go_session.specs.Walk.{no_fronts, fronts_after};
 
+use go_api::PLACES;
 use go_report::Reply;
 use go_script::{Command, Script};
 
@@ -14,7 +15,7 @@ pub fn count_within(script: &Script, replies: &[Reply], durable: u64) -> usize
     ensures shown { take result replies.now ≡ cut_from durable no_fronts (commands_of script.now) replies.now }
     ensures within { result ≤ length replies.now }
 {
-    let mut fronts = [None; 4];
+    let mut fronts = [None; PLACES];
     for i in 0..replies.len() {
         let reply = &replies[i];
         if !rests_within(&fronts, script.command(i), reply, durable) {
@@ -26,7 +27,12 @@ pub fn count_within(script: &Script, replies: &[Reply], durable: u64) -> usize
 }
 
 // Whether a reply rests on at most so many of the log's first entries.
-fn rests_within(fronts: &[Option<u64>; 4], command: &Command, reply: &Reply, durable: u64) -> bool
+fn rests_within(
+    fronts: &[Option<u64>; PLACES],
+    command: &Command,
+    reply: &Reply,
+    durable: u64,
+) -> bool
     requires { NamesPlace command.now }
     ensures { (front_at : ℕ → Option ℕ) → HasFronts front_at fronts.now → result ≡ nat_le (rest_of front_at command.now reply.now) durable }
 {
@@ -38,7 +44,7 @@ fn rests_within(fronts: &[Option<u64>; 4], command: &Command, reply: &Reply, dur
 }
 
 // The front of the view that a command reads.
-fn front_read(fronts: &[Option<u64>; 4], command: &Command) -> u64
+fn front_read(fronts: &[Option<u64>; PLACES], command: &Command) -> u64
     requires { NamesPlace command.now }
     ensures { (front_at : ℕ → Option ℕ) → HasFronts front_at fronts.now → result ≡ front_read front_at command.now }
 {
@@ -49,7 +55,7 @@ fn front_read(fronts: &[Option<u64>; 4], command: &Command) -> u64
 }
 
 // Keeps the front of a new view.
-fn note_front(fronts: &mut [Option<u64>; 4], reply: &Reply)
+fn note_front(fronts: &mut [Option<u64>; PLACES], reply: &Reply)
     ensures { (front_at : ℕ → Option ℕ) → HasFronts front_at fronts.old → HasFronts (fronts_after front_at reply.now) fronts.new }
 {
     if let Reply::Viewed { place, front } = reply {

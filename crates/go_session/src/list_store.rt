@@ -2,7 +2,7 @@
 ghost use Rattle.std.specs.Prelude.{◌≡◌, [], ◌<◌, ◌^◌};
 ghost use Rattle.go_api.specs.Standing.{unused};
 
-use go_api::{Place, Stop, Store};
+use go_api::{PLACES, Place, Stop, Store};
 use go_word::{Edge, neighbours_of};
 use std::alloc::Global;
 use std::marker::Model;
@@ -12,7 +12,7 @@ use std::marker::Model;
 pub(crate) struct ListStore {
     log: Vec<Edge>,
     quota: u64,
-    places: [Place; 4],
+    places: [Place; PLACES],
 }
 
 impl Model for ListStore {
@@ -35,13 +35,13 @@ impl ListStore {
         ListStore {
             log: Vec::new(alloc),
             quota,
-            places: [Place::Free; 4],
+            places: [Place::Free; PLACES],
         }
     }
 
     // How many entries there are.
     fn front(&self) -> u64
-        ensures { result ≡ self.now.known }
+        ensures { result ≡ self.now.log.known }
     {
         self.log.len() as u64
     }

@@ -2,7 +2,7 @@
 
 use crate::list_store::ListStore;
 use crate::{Session, Step, entries_in};
-use go_io::NoGate;
+use go_io::{CountingGate, Gate, NoGate};
 use go_script::parse;
 use std::alloc::Global;
 use std::process::Abort;
@@ -10,13 +10,23 @@ use std::test::Fail;
 
 // A session that has answered all commands of a script over 8 vertices.
 fn answered(rt: &impl Abort, alloc: Global, script: &[u8]) -> Result<Session, Fail> {
+    answered_through(rt, alloc, script, &NoGate)
+}
+
+// The same, through a gate.
+fn answered_through<G: Gate>(
+    rt: &impl Abort,
+    alloc: Global,
+    script: &[u8],
+    gate: &G,
+) -> Result<Session, Fail> {
     let script = parse(alloc, script, 8)?;
     let mut session = Session::new(alloc, 1, script)?;
     let quota = session.puts();
     assert!(rt; quota < 100);
     let mut store = ListStore::new(alloc, quota);
     for _ in 0..100 {
-        match session.step(&mut store, &NoGate) {
+        match session.step(&mut store, gate) {
             Step::Did => {}
             Step::Ended => return Ok(session),
             Step::Stopped { why: _ } => return Err(Fail::new("stopped")),
@@ -78,6 +88,22 @@ fn replies_are_cut_at_the_first_that_rests_on_more(rt: HostRuntime) -> Result<()
     ] {
         let text = text_of(&session, rt.alloc(), Some(durable))?;
         assert_eq!(rt; text.as_slice(), want);
+    }
+    Ok(())
+}
+
+// Each try of a command passes the gate, and the end does not. No clause says so.
+#[test]
+fn each_command_passes_the_gate_once(rt: HostRuntime) -> Result<(), Fail> {
+    for (script, tries, last) in [
+        (b"".as_slice(), 0, (0, 0)),
+        (b"add 1 2\n", 1, (1, 0)),
+        (b"view 0\nneigh 0 1\n", 2, (1, 1)),
+        (b"add 1 2\ndel 1 2\nview 0\nneigh 0 1\n", 4, (1, 3)),
+    ] {
+        let gate = CountingGate::new();
+        let _session = answered_through(&rt, rt.alloc(), script, &gate)?;
+        assert_eq!(rt; (gate.tries(), gate.last(), gate.turns()), (tries, last, 0));
     }
     Ok(())
 }

@@ -9,7 +9,8 @@ loop-reply-init c = c.in_ok-put_heading.ensures.ok ∙ text_start c.args.out.now
 pub loop-reply-preserved : goal.loop-reply-preserved
 loop-reply-preserved c =
     c.in_ok-render.ensures.ok
-    ∙ text_more c.args.out.now.items c.loop-reply.out.items c.args.number c.args.replies.now c.loop-reply.reply-index c.reply-item.result c.loop-reply-test.true c.reply-item.is c.loop-reply.invariant
+    ∙ text_more c.args.out.now.items c.loop-reply.out.items c.args.number c.args.replies.now
+    c.loop-reply.reply-index c.reply-item.result c.loop-reply-test.true c.reply-item.is c.loop-reply.invariant
 
 pub returns : goal.returns
 returns c = text_all c.args.out.now.items c.loop-reply.out.items c.args.number c.args.replies.now c.loop-reply.reply-index (omega arith) c.loop-reply.invariant

@@ -1,6 +1,6 @@
--- The loop of `answered`.
+-- The loop of `answered_through`.
 use Rattle.go_session.specs.Session.{CanGoOn}
-use Rattle.go_session.proofs.tests.answered.Given as goal
+use Rattle.go_session.proofs.tests.answered_through.Given as goal
 
 -- the session can go on over the list
 abbrev pub invariant-loop : goal.invariant-loop

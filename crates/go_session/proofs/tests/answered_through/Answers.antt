@@ -1,7 +1,7 @@
--- The loop of `answered`.
+-- The loop of `answered_through`.
 use Rattle.go_script.specs.Places.{commands_of}
 use Rattle.go_session.proofs.ListedLemmas.{begins_listed}
-use Rattle.go_session.proofs.tests.answered.Goals as goal
+use Rattle.go_session.proofs.tests.answered_through.Goals as goal
 
 pub loop-init : goal.loop-init
 loop-init g c =
