@@ -28,7 +28,8 @@ use Rattle.go_core.proofs.Ready.{seated_or_absent}
 use Rattle.go_core.proofs.Runs.{same_word, word-refused, row_frame, row_released}
 
 -- the answer of a front that was read is the front, which is never below what is released
-front_answer : (front : ℕ) (after m : Machine) (condition : Type 0) (n : ℕ) (now : Machine) → released m.words ≤ front → Does condition (Number front) after m (Number n) now → released m.words ≤ n
+front_answer : (front : ℕ) (after m : Machine) (condition : Type 0) (n : ℕ) (now : Machine) → released m.words ≤ front
+    → Does condition (Number front) after m (Number n) now → released m.words ≤ n
 front_answer front after m condition n now from does =
     ⊎_elim (λ yes'. let same : n ≡ front = same_number n front yes'.1 in omega arith) (λ not. absurd (refused n not.1)) does
   where
@@ -49,7 +50,8 @@ front_read m j act n now reads row =
     front_answer (durable_in m.words) _ m _ n now (omega arith) row') reads
 
 -- a front that is read later is at or above what is released now
-front_later : (m : Machine) (es : List Event) (outs : List Out) (now : Machine) (log : List Edge) (k n : ℕ) → Run m es outs now → IsTied m log → IsFrontRead es outs k n → released m.words ≤ n
+front_later : (m : Machine) (es : List Event) (outs : List Out) (now : Machine) (log : List Edge) (k n : ℕ) → Run m es outs now → IsTied m log
+    → IsFrontRead es outs k n → released m.words ≤ n
 front_later m es [] now log k n run tied read = absurd (some-ne-none (Number n) (sym read.answer))
 front_later m [] (out ∷ outs) now log k n run tied read = absurd run
 front_later m (e ∷ es) (out ∷ outs) now log zero n run tied read =
@@ -62,7 +64,8 @@ front_later m (e ∷ es) (out ∷ outs) now log (suc k) n run tied read =
     let next = run.0 in
     let kept = row_keeps m e.party e.act out next log run.1 tied in
     let first = row_released m e.party e.act out next log run.1 tied in
-    let rest = front_later next es outs now (log ++ claims e.act out) k n run.2 kept (record { event = read.event; there = read.there; reads = read.reads; answer = read.answer }) in
+    let rest = front_later next es outs now (log ++ claims e.act out) k n run.2 kept
+    (record { event = read.event; there = read.there; reads = read.reads; answer = read.answer }) in
     omega arith
 
 -- what a word that was read ahead tells, where nothing up to its position was released
@@ -78,12 +81,12 @@ row_copied m i p x now log row tied from =
     let is : x ≡ slot m.frame m.words p = same_word x (slot m.frame m.words p) yes'.1 in
     let can : CanReadAhead m.frame.slots v p = yes'.0.1 in
     let s = t.seated i v (party_there m i yes'.0.0) in
-    let archived = s.archived_to in
-    let durable = s.durable_to in
+    let archived = s.knows.archived_to in
+    let durable = s.knows.durable_to in
     let to = can.to in
     let inside : p < released m.words + m.frame.slots = omega arith in
-    let archived_from = r.archived_from in
-    let durable_from = r.durable_from in (
+    let archived_from = r.archived.from in
+    let durable_from = r.durable.from in (
       (λ matched.
           let found = in_window m.frame log m.words views p r from inside (ap (is_matched m.frame.slots p) (sym is) ∙ matched) in
           let same : decode x ≡ found.edge = ap decode {x = x} is ∙ matched-decode m.frame log m.words views p t (omega arith) found in
@@ -91,24 +94,27 @@ row_copied m i p x now log row tied from =
       (λ unmatched.
           ⊎_elim
           (λ (seen : p < v.seen).
-          let written = s.seen_written p seen in
+          let written = s.sees.written p seen in
           let found = lookup-some log p written.within in
           let holds : slot m.frame m.words p ≡ word m.frame.slots p found.0 = r.holds p found.0 from inside written found.1 in
-          let matched : is_matched m.frame.slots p x ≡ true = ap (is_matched m.frame.slots p) (is ∙ holds) ∙ is_matched-word m.frame.slots p found.0 (t.storable p found.0 (omega arith) found.1) in
+          let matched : is_matched m.frame.slots p x ≡ true = ap (is_matched m.frame.slots p) (is ∙ holds)
+          ∙ is_matched-word m.frame.slots p found.0 (t.storable p found.0 (omega arith) found.1) in
           absurd (both_ways (is_matched m.frame.slots p x) unmatched matched))
           (λ (unseen : v.seen ≤ p). unseen) (cases_lt p v.seen)),
     ))
     (λ not. absurd (word-refused x not.1)) row
 
 -- over a run
-pub run_copied : (m : Machine) (es : List Event) (outs : List Out) (now : Machine) (log : List Edge) → Run m es outs now → IsTied m log → (k i p x : ℕ) → IsAssured es outs k i p x → IsCopied m es outs (log ++ all_claims es outs) k i p x
+pub run_copied : (m : Machine) (es : List Event) (outs : List Out) (now : Machine) (log : List Edge) → Run m es outs now → IsTied m log → (k i p x : ℕ)
+    → IsAssured es outs k i p x → IsCopied m es outs (log ++ all_claims es outs) k i p x
 run_copied m es [] now log run tied k i p x read = absurd (some-ne-none (Word x) (sym read.answer))
 run_copied m [] (out ∷ outs) now log run tied k i p x read = absurd run
 run_copied m (e ∷ es) (out ∷ outs) now log run tied zero i p x read =
     let next = run.0 in
     let event : e ≡ record { party = i; act = LoadTentative p } = some-injective e _ read.event in
     let answer : out ≡ Word x = some-injective out (Word x) read.answer in
-    let row : Row m i (LoadTentative p) (Word x) next = subst (λ o. Row m i (LoadTentative p) o next) answer (subst (λ (z : Event). Row m z.party z.act out next) event run.1) in
+    let row : Row m i (LoadTentative p) (Word x) next = subst (λ o. Row m i (LoadTentative p) o next) answer
+    (subst (λ (z : Event). Row m z.party z.act out next) event run.1) in
     let front = read.front in
     let from : released m.words ≤ front = front_later m (e ∷ es) (out ∷ outs) now log read.later front run tied read.read in
     let up_to = read.up_to in
@@ -123,20 +129,35 @@ run_copied m (e ∷ es) (out ∷ outs) now log run tied (suc k) i p x read =
     let frame = row_frame m e.party e.act out next run.1 in
     let rest = run_copied next es outs now (log ++ claims e.act out) run.2 kept k i p x (later_read e es out outs k i p x read) in
     record {
-      matched = λ matched. subst (λ l. get_elem? l p ≡ some (decode x)) (append_assoc log (claims e.act out) (all_claims es outs)) (rest.matched (subst (λ f. is_matched f.slots p x ≡ true) (sym frame) matched));
-      unmatched = λ unmatched. let u = rest.unmatched (subst (λ f. is_matched f.slots p x ≡ false) (sym frame) unmatched) in record { machine = u.machine; run = (next, run.1, u.run); unseen = u.unseen };
+      matched = λ matched. subst (λ l. get_elem? l p ≡ some (decode x)) (append_assoc log (claims e.act out) (all_claims es outs))
+          (rest.matched (subst (λ f. is_matched f.slots p x ≡ true) (sym frame) matched));
+      unmatched = λ unmatched. let u = rest.unmatched (subst (λ f. is_matched f.slots p x ≡ false) (sym frame) unmatched) in
+          record { machine = u.machine; run = (next, run.1, u.run); unseen = u.unseen };
     }
   where
-    back : (e : Event) (es : List Event) (out : Out) (outs : List Out) (k later n : ℕ) → k < later → IsFrontRead (e ∷ es) (out ∷ outs) (suc later) n → IsFrontRead es outs later n
+    back : (e : Event) (es : List Event) (out : Out) (outs : List Out) (k later n : ℕ) → k < later → IsFrontRead (e ∷ es) (out ∷ outs) (suc later) n
+        → IsFrontRead es outs later n
     back e es out outs k later n after read = record { event = read.event; there = read.there; reads = read.reads; answer = read.answer }
 
-    by_later : (e : Event) (es : List Event) (out : Out) (outs : List Out) (k i p x later front : ℕ) → get_elem? es k ≡ some (record { party = i; act = LoadTentative p }) → get_elem? outs k ≡ some (Word x) → suc k < later → IsFrontRead (e ∷ es) (out ∷ outs) later front → front ≤ p
+    by_later : (e : Event) (es : List Event) (out : Out) (outs : List Out) (k i p x later front : ℕ)
+        → get_elem? es k ≡ some (record { party = i; act = LoadTentative p }) → get_elem? outs k ≡ some (Word x) → suc k < later
+        → IsFrontRead (e ∷ es) (out ∷ outs) later front → front ≤ p
         → IsAssured es outs k i p x
     by_later e es out outs k i p x zero front event answer after read up_to = absurd (omega arith)
     by_later e es out outs k i p x (suc later) front event answer after read up_to =
-        record { event = event; answer = answer; later = later; after = omega arith; front = front; read = back e es out outs k later front (omega arith) read; up_to = up_to }
+        record {
+          event = event;
+          answer = answer;
+          later = later;
+          after = omega arith;
+          front = front;
+          read = back e es out outs k later front
+              (omega arith) read;
+          up_to = up_to;
+        }
 
-    later_read : (e : Event) (es : List Event) (out : Out) (outs : List Out) (k i p x : ℕ) → IsAssured (e ∷ es) (out ∷ outs) (suc k) i p x → IsAssured es outs k i p x
+    later_read : (e : Event) (es : List Event) (out : Out) (outs : List Out) (k i p x : ℕ) → IsAssured (e ∷ es) (out ∷ outs) (suc k) i p x
+        → IsAssured es outs k i p x
     later_read e es out outs k i p x read = by_later e es out outs k i p x read.later read.front read.event read.answer read.after read.read read.up_to
 
 -- the words of a copy that are sure tell what they told
@@ -147,7 +168,8 @@ tied_sure m log i tied =
     ⊎_elim
     (λ there.
     All-weaker (IsSound m.frame log m.words views v.marked) (λ l. l.sure ≡ true → Tells m.frame log views v.marked l)
-    (λ l sound sure. sure_tells m.frame log m.words views v.marked l sure sound) v.loads (tied.tied.seated i v there).loads)
+    (λ l sound sure. sure_tells m.frame log m.words views v.marked l sure sound) v.loads (tied.tied.seated i v there).reads)
     (λ none.
-    subst (λ (p : Party). All (λ l. l.sure ≡ true → Tells m.frame log views p.view.marked l) p.view.loads) (sym none) (All-nil (λ l. l.sure ≡ true → Tells m.frame log views 0 l)))
+    subst (λ (p : Party). All (λ l. l.sure ≡ true → Tells m.frame log views p.view.marked l) p.view.loads) (sym none)
+    (All-nil (λ l. l.sure ≡ true → Tells m.frame log views 0 l)))
     (seated_or_absent m i)

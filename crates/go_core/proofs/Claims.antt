@@ -1,8 +1,8 @@
 -- A claim: the log grows by its entries, which the party owes from then on.
-use Rattle.std.proofs.Common.{◌≡◌, ℕ, ◌+◌, ◌-◌, ◌<◌, ◌≤◌, ◌≢◌, true, List, ◌++◌, length, set, sym, refl, ap, ◌∙◌, ⊎_elim, arith, subst}
-use Rattle.std.specs.Prelude.{All, sum_by, slice_index}
+use Rattle.std.proofs.Common.{◌≡◌, ℕ, ◌+◌, ◌-◌, ◌<◌, ◌≤◌, true, List, ◌++◌, length, set, sym, refl, ap, ◌∙◌, ⊎_elim, arith, subst}
+use Rattle.std.specs.Prelude.{All, sum_by}
 use Rattle.std.proofs.lemmas.Bool.{cases_lt}
-use Rattle.std.proofs.lemmas.List.{length-append, length-set, get_or-set_same, get_or-set_other}
+use Rattle.std.proofs.lemmas.List.{length-append, length-set}
 use Rattle.std.proofs.lemmas.List.Elements.{All-append}
 use mathlib.Core.Option.{some}
 use lib.ListN.{get_elem?}
@@ -11,24 +11,17 @@ use Rattle.go_word.specs.Word.{IsStorable, is_matched}
 use Rattle.go_core.specs.declared.view.View.{View}
 use Rattle.go_core.specs.Frame.{Frame, place, slot, head_in, archived_in, durable_in, flag_in, released}
 use Rattle.go_core.specs.View.{count_at, unfilled, stands, numbered, claimed}
-use Rattle.go_core.specs.Rule.{IsOf, owed, IsWritten, Seated, IsFlag, TiedBy}
-use Rattle.go_core.proofs.Lookups.{lookup-within, lookup-set, lookup-longer, lookup-shorter, lookup-after, get_or-lookup}
+use Rattle.go_core.specs.Rule.{IsOf, owed, IsWritten, Seated, TiedBy}
+use Rattle.go_core.proofs.Lookups.{lookup-within, lookup-longer, lookup-shorter, lookup-after, get_or-lookup}
 use Rattle.go_core.proofs.Totals.{total-set}
 use Rattle.go_core.proofs.Entries.{count_at-append, count_at-numbered_before, count_at-numbered_after, count_at-numbered_within, IsOf-numbered}
-use Rattle.go_core.proofs.Onward.{Onward, seated_onward, count_alike, flag_same}
+use Rattle.go_core.proofs.Onward.{Onward, seated_onward, works_still, each_set}
+use Rattle.go_core.proofs.Moved.{count_alike, flag_alike, word_other, word_here}
 use Rattle.go_core.proofs.Loads.{still_live}
 
 -- what holds of each element holds at each place
 pub All-lookup : {A : Type 0} (P : A → Type 0) (xs : List A) (i : ℕ) (a : A) → All P xs → get_elem? xs i ≡ some a → P a
 All-lookup P xs i a all there = subst P (get_or-lookup xs i a a there) (all i a (lookup-within xs i a there))
-
--- a word that isn't written stays
-pub word_other : (words : List ℕ) (i j n : ℕ) → j ≢ i → slice_index (set words i n) j ≡ slice_index words j
-word_other words i j n ne = get_or-set_other words i j n 0 ne
-
--- a word that is written is what was written
-pub word_here : (words : List ℕ) (i n : ℕ) → i < length words → slice_index (set words i n) i ≡ n
-word_here words i n within = get_or-set_same words i n 0 within
 
 -- what a claim adds to what its party owes and to what stands in its view
 claimed_owes : (p n : ℕ) (es : List Edge) (v : View) → unfilled p (claimed n es v) ≡ unfilled p v + count_at p (numbered n es)
@@ -37,8 +30,9 @@ claimed_owes p n es v = omega (arith, count_at-append p v.pending (numbered n es
 claimed_stands : (p n : ℕ) (es : List Edge) (v : View) → stands p (claimed n es v) ≡ stands p v + count_at p (numbered n es)
 claimed_stands p n es v = omega (arith, count_at-append p v.pending (numbered n es))
 
-pub claim_keeps : (f : Frame) (log es : List Edge) (words : List ℕ) (views : List View) (i : ℕ) (v : View) → get_elem? views i ≡ some v → v.live ≡ true → All IsStorable es → TiedBy f log words views
-    → TiedBy f (log ++ es) (set words 0 (length log + length es)) (set views i (claimed (length log) es v))
+pub claim_keeps : (f : Frame) (log es : List Edge) (words : List ℕ) (views : List View) (i : ℕ) (v : View) → get_elem? views i ≡ some v → v.live ≡ true
+    → All IsStorable es
+    → TiedBy f log words views → TiedBy f (log ++ es) (set words 0 (length log + length es)) (set views i (claimed (length log) es v))
 claim_keeps f log es words views i v there live storable tied =
     let r = tied.ringed in
     let h = length log in
@@ -48,12 +42,14 @@ claim_keeps f log es words views i v there live storable tied =
     let words' = set words 0 n in
     let views' = set views i w in
     let more : ℕ → ℕ = λ p. count_at p (numbered h es) in
-    let some_slots = r.some_slots in
-    let four_words = r.four_words in
-    let all_words = r.all_words in
-    let archived_from = r.archived_from in
-    let archived_to = r.archived_to in
-    let durable_to = r.durable_to in
+    let shape = r.shape in
+    let some_slots = shape.some_slots in
+    let four_words = shape.four_words in
+    let all_words = shape.all_words in
+    let archived_from = r.archived.from in
+    let archived_to = r.archived.to in
+    let durable_from = r.durable.from in
+    let durable_to = r.durable.to in
     let long : length log' ≡ n = length-append log es in
     let head : head_in words' ≡ n = word_here words 0 n (omega arith) in
     let archived : archived_in words' ≡ archived_in words = word_other words 0 1 n (λ e. omega arith) in
@@ -99,20 +95,15 @@ claim_keeps f log es words views i v there live storable tied =
       flag = λ raised. omega arith;
     }
     in
-    let still : (u : View) → Seated f log words views u → Seated f log' words' views' u = λ u s. seated_onward f log words views log' words' views' on u (λ role. archived) (λ role. durable) s in
+    let still : (u : View) → Seated f log words views u → Seated f log' words' views' u = λ u s.
+    seated_onward f on u (works_still words' u (λ role. archived) (λ role. durable) s.works) s
+    in
     let s = still v (tied.seated i v there) in
     record {
       ringed = record {
-        some_slots = some_slots;
-        four_words = four_words;
-        all_words = length-set words 0 n ∙ all_words;
-        head = head ∙ sym long;
-        archived_from = omega arith;
-        durable_from = let from = r.durable_from in omega arith;
-        archived_to = omega arith;
-        durable_to = omega arith;
-        archived_written = λ p below. forth p (r.archived_written p (omega arith));
-        durable_written = λ p below. forth p (r.durable_written p (omega arith));
+        shape = record { some_slots = some_slots; four_words = four_words; all_words = length-set words 0 n ∙ all_words; head = head ∙ sym long };
+        archived = record { from = omega arith; to = omega arith; written = λ p below. forth p (r.archived.written p (omega arith)) };
+        durable = record { from = omega arith; to = omega arith; written = λ p below. forth p (r.durable.written p (omega arith)) };
         beyond = λ p far within.
             (let total = owe p in
             ⊎_elim (λ (less : p < h). let old : 0 < owed views p = r.beyond p (omega arith) less in omega arith)
@@ -122,41 +113,46 @@ claim_keeps f log es words views i v there live storable tied =
             slots p ∙ r.holds p e (omega arith) (omega arith) old (lookup-shorter log es p e old.within there'));
         waits = λ p from to not. ap (is_matched f.slots p) (slots p) ∙ r.waits p (omega arith) (omega arith) (λ written. not (forth p written));
       };
-      seated = λ j u at_j.
-          ⊎_elim
-          (λ here.
-          subst (λ z. Seated f log' words' views' z) here.1
+      seated = each_set (Seated f log' words' views') views i w
           (record {
-            spent_else = λ dead. still_live v _ live dead;
-            taken_from = s.taken_from;
-            taken_to = s.taken_to;
-            marked_to = s.marked_to;
-            seen_written = s.seen_written;
-            head_to = s.head_to;
-            archived_to = s.archived_to;
-            durable_to = s.durable_to;
-            archiver_knows = s.archiver_knows;
-            archiver_took = s.archiver_took;
-            flusher_knows = s.flusher_knows;
-            flusher_took = s.flusher_took;
-            pending_of = All-append (IsOf log') v.pending (numbered h es) s.pending_of (IsOf-numbered log es);
-            abandoned_of = s.abandoned_of;
-            flagged = s.flagged;
-            own = s.own;
-            joined = s.joined;
-            loads = s.loads;
-          }))
-          (λ other. still u (tied.seated j u other.1)) (lookup-set views i j w u at_j);
-      once = λ p from to.
-          (let total = stand p in
-          ⊎_elim
-          (λ (less : p < h). let old : sum_by (stands p) views ≡ 1 = tied.once p from less in let none : more p ≡ 0 = count_at-numbered_before p h es less in omega arith)
-          (λ (over : h ≤ p). let old : sum_by (stands p) views ≡ 0 = tied.none_after p over in let one : more p ≡ 1 = count_at-numbered_within p h es over (omega arith) in omega arith)
-          (cases_lt p h));
-      none_before = λ p before.
-          (let total = stand p in let old = tied.none_before p before in let none : more p ≡ 0 = count_at-numbered_before p h es (omega arith) in omega arith);
-      none_after = λ p after.
-          (let total = stand p in let old = tied.none_after p (omega arith) in let none : more p ≡ 0 = count_at-numbered_after p h es (omega arith) in omega arith);
+            ended = λ dead. still_live v _ live dead;
+            takes = s.takes;
+            sees = s.sees;
+            knows = s.knows;
+            works = s.works;
+            owes = record {
+              pending_of = All-append (IsOf log') v.pending (numbered h es) s.owes.pending_of (IsOf-numbered log es);
+              abandoned_of = s.owes.abandoned_of;
+              flagged = s.owes.flagged;
+            };
+            owns = s.owns;
+            reads = s.reads;
+          })
+          (λ j u ne at_j. still u (tied.seated j u at_j));
+      stand = record {
+        once = λ p from to.
+            (let total = stand p in
+            ⊎_elim
+            (λ (less : p < h).
+            let old : sum_by (stands p) views ≡ 1 = tied.stand.once p from less in
+            let none : more p ≡ 0 = count_at-numbered_before p h es less in
+            omega arith)
+            (λ (over : h ≤ p).
+            let old : sum_by (stands p) views ≡ 0 = tied.stand.after p over in
+            let one : more p ≡ 1 = count_at-numbered_within p h es over (omega arith) in
+            omega arith)
+            (cases_lt p h));
+        before = λ p less.
+            (let total = stand p in
+            let old = tied.stand.before p less in
+            let none : more p ≡ 0 = count_at-numbered_before p h es (omega arith) in
+            omega arith);
+        after = λ p over.
+            (let total = stand p in
+            let old = tied.stand.after p (omega arith) in
+            let none : more p ≡ 0 = count_at-numbered_after p h es (omega arith) in
+            omega arith);
+      };
       one_archiver = let old = tied.one_archiver in let same = count_alike (λ u. u.archives) views i v w there refl in omega arith;
       one_flusher = let old = tied.one_flusher in let same = count_alike (λ u. u.flushes) views i v w there refl in omega arith;
       storable = λ p e from there'.
@@ -166,6 +162,5 @@ claim_keeps f log es words views i v there live storable tied =
           let is : length log + k ≡ p = omega arith in
           All-lookup IsStorable es k e storable (sym (lookup-after log es k) ∙ ap (get_elem? log') is ∙ there'))
           (cases_lt p h);
-      flag = subst (λ n. IsFlag n views') (sym flag)
-          (flag_same (flag_in words) views views' (count_alike (λ u. u.disk_raised) views i v w there refl) (count_alike (λ u. u.memory_raised) views i v w there refl) tied.flag);
+      flag = flag_alike (flag_in words) (flag_in words') views i v w there (record { disk = refl; memory = refl }) flag tied.flag;
     }

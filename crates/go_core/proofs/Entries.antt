@@ -1,5 +1,6 @@
 -- How often a position stands in a list of entries: after a claim, a store and a merge; and that own entries stay in order.
-use Rattle.std.proofs.Common.{add-zero, take-append-drop, ◌≡◌, ℕ, zero, suc, ◌+◌, ◌-◌, ◌<◌, ◌≤◌, ◌≢◌, Bool, true, false, cond, List, [], ◌∷◌, ◌++◌, length, get_or, take, drop, sym, refl, ap, ◌∙◌, ⊎_elim, arith, subst}
+use Rattle.std.proofs.Common.{add-zero, take-append-drop, ◌≡◌, ℕ, zero, suc, ◌+◌, ◌-◌, ◌<◌, ◌≤◌, ◌≢◌, Bool, true, false, cond, List, [], ◌∷◌, ◌++◌, length}
+use Rattle.std.proofs.Common.{get_or, take, drop, sym, refl, ap, ◌∙◌, ⊎_elim, arith, subst}
 use Rattle.std.specs.Prelude.{All, Contains}
 use Rattle.std.proofs.lemmas.Bool.{cases_Bool, cases_eq}
 use Rattle.std.proofs.Math.Nat.{eq-or-lt_of_le}
@@ -13,21 +14,19 @@ use Rattle.go_core.specs.declared.entry.Entry.{Entry}
 use Rattle.go_core.specs.View.{stands_at, count_at, numbered, without, inserted, before_later}
 use Rattle.go_core.specs.Rule.{IsOf}
 use Rattle.go_core.proofs.Lookups.{lookup-after}
+use Rattle.go_core.proofs.Totals.{bit_of}
 
 -- an entry at the position counts once, another doesn't
-abbrev pub bit : ℕ → Entry → ℕ
-bit p x = cond (stands_at p x) 1 0
-
-pub count_at-cons : (p : ℕ) (x : Entry) (xs : List Entry) → count_at p (x ∷ xs) ≡ bit p x + count_at p xs
+pub count_at-cons : (p : ℕ) (x : Entry) (xs : List Entry) → count_at p (x ∷ xs) ≡ bit_of (stands_at p x) + count_at p xs
 count_at-cons p x xs = sum_by-cons (λ y. cond (stands_at p y) 1 0) x xs
 
 pub count_at-append : (p : ℕ) (xs ys : List Entry) → count_at p (xs ++ ys) ≡ count_at p xs + count_at p ys
 count_at-append p xs ys = sum_by-append (λ y. cond (stands_at p y) 1 0) xs ys
 
-pub bit-here : (p : ℕ) (x : Entry) → x.at ≡ p → bit p x ≡ 1
+pub bit-here : (p : ℕ) (x : Entry) → x.at ≡ p → bit_of (stands_at p x) ≡ 1
 bit-here p x e = grind (arith, nat_tests)
 
-pub bit-other : (p : ℕ) (x : Entry) → x.at ≢ p → bit p x ≡ 0
+pub bit-other : (p : ℕ) (x : Entry) → x.at ≢ p → bit_of (stands_at p x) ≡ 0
 bit-other p x ne = grind (arith, nat_tests)
 
 -- claimed entries: one at each position from p on, as many as there are
@@ -58,7 +57,8 @@ count_at-numbered_within q p (e ∷ es) from to =
     (eq-or-lt_of_le from)
 
 -- they are the log's that follow it
-of-numbered : (log : List Edge) (p : ℕ) (es : List Edge) → ((k : ℕ) (e : Edge) → get_elem? es k ≡ some e → get_elem? log (p + k) ≡ some e) → All (IsOf log) (numbered p es)
+of-numbered : (log : List Edge) (p : ℕ) (es : List Edge) → ((k : ℕ) (e : Edge) → get_elem? es k ≡ some e → get_elem? log (p + k) ≡ some e)
+    → All (IsOf log) (numbered p es)
 of-numbered log p [] tell = All-nil (IsOf log)
 of-numbered log p (e ∷ es) tell =
     let x : Entry = record { at = p; edge = e } in
@@ -78,14 +78,14 @@ pub count_at-without_here : (p : ℕ) (xs : List Entry) → count_at p (without 
 count_at-without_here p [] = refl
 count_at-without_here p (x ∷ xs) =
     let rest : count_at p (without p xs) ≡ count_at p xs - 1 = count_at-without_here p xs in
-    let whole : count_at p (x ∷ xs) ≡ bit p x + count_at p xs = count_at-cons p x xs in
+    let whole : count_at p (x ∷ xs) ≡ bit_of (stands_at p x) + count_at p xs = count_at-cons p x xs in
     ⊎_elim
     (λ (here : stands_at p x ≡ true).
-    let one : bit p x ≡ 1 = ap (λ b. cond b 1 0) here in
+    let one : bit_of (stands_at p x) ≡ 1 = ap (λ b. cond b 1 0) here in
     ap (λ b. count_at p (kept b x xs (without p xs))) here ∙ omega arith)
     (λ (other : stands_at p x ≡ false).
-    let none : bit p x ≡ 0 = ap (λ b. cond b 1 0) other in
-    let more : count_at p (x ∷ without p xs) ≡ bit p x + count_at p (without p xs) = count_at-cons p x (without p xs) in
+    let none : bit_of (stands_at p x) ≡ 0 = ap (λ b. cond b 1 0) other in
+    let more : count_at p (x ∷ without p xs) ≡ bit_of (stands_at p x) + count_at p (without p xs) = count_at-cons p x (without p xs) in
     ap (λ b. count_at p (kept b x xs (without p xs))) other ∙ omega arith)
     (cases_Bool (stands_at p x))
 
@@ -94,14 +94,14 @@ pub count_at-without_other : (q p : ℕ) (xs : List Entry) → q ≢ p → count
 count_at-without_other q p [] ne = refl
 count_at-without_other q p (x ∷ xs) ne =
     let rest : count_at q (without p xs) ≡ count_at q xs = count_at-without_other q p xs ne in
-    let whole : count_at q (x ∷ xs) ≡ bit q x + count_at q xs = count_at-cons q x xs in
+    let whole : count_at q (x ∷ xs) ≡ bit_of (stands_at q x) + count_at q xs = count_at-cons q x xs in
     ⊎_elim
     (λ (here : stands_at p x ≡ true).
     let same : x.at ≡ p = grind (arith, nat_tests) in
-    let none : bit q x ≡ 0 = bit-other q x (λ e. ne (sym e ∙ same)) in
+    let none : bit_of (stands_at q x) ≡ 0 = bit-other q x (λ e. ne (sym e ∙ same)) in
     ap (λ b. count_at q (kept b x xs (without p xs))) here ∙ omega arith)
     (λ (other : stands_at p x ≡ false).
-    let more : count_at q (x ∷ without p xs) ≡ bit q x + count_at q (without p xs) = count_at-cons q x (without p xs) in
+    let more : count_at q (x ∷ without p xs) ≡ bit_of (stands_at q x) + count_at q (without p xs) = count_at-cons q x (without p xs) in
     ap (λ b. count_at q (kept b x xs (without p xs))) other ∙ omega arith)
     (cases_Bool (stands_at p x))
 
@@ -110,7 +110,8 @@ pub count_at-without_le : (q p : ℕ) (xs : List Entry) → count_at q (without 
 count_at-without_le q p xs =
     ⊎_elim
     (λ (here : q ≡ p).
-    let gone : count_at q (without p xs) ≡ count_at q xs - 1 = ap (λ k. count_at k (without p xs)) here ∙ count_at-without_here p xs ∙ ap (λ k. count_at k xs - 1) (sym here) in
+    let gone : count_at q (without p xs) ≡ count_at q xs - 1 = ap (λ k. count_at k (without p xs)) here ∙ count_at-without_here p xs
+    ∙ ap (λ k. count_at k xs - 1) (sym here) in
     omega arith)
     (λ (other : q ≢ p). let same : count_at q (without p xs) ≡ count_at q xs = count_at-without_other q p xs other in omega arith) (cases_eq q p)
 
@@ -131,19 +132,20 @@ count_at-Contains xs x contained = within xs x contained.0 contained.1 contained
     within : (xs : List Entry) (x : Entry) (k : ℕ) → k < length xs → get_or xs k x ≡ x → 0 < count_at x.at xs
     within [] x k small is = absurd (omega arith)
     within (y ∷ ys) x zero small is =
-        let here : bit x.at y ≡ 1 = bit-here x.at y (ap (λ z. z.at) is) in
+        let here : bit_of (stands_at x.at y) ≡ 1 = bit-here x.at y (ap (λ z. z.at) is) in
         omega (arith, count_at-cons x.at y ys)
     within (y ∷ ys) x (suc k) small is =
         let rest : 0 < count_at x.at ys = within ys x k (omega arith) is in
         omega (arith, count_at-cons x.at y ys)
 
 -- an entry inserted counts once more, and the others stay
-pub count_at-inserted : (q : ℕ) (x : Entry) (xs : List Entry) → count_at q (inserted x xs) ≡ bit q x + count_at q xs
+pub count_at-inserted : (q : ℕ) (x : Entry) (xs : List Entry) → count_at q (inserted x xs) ≡ bit_of (stands_at q x) + count_at q xs
 count_at-inserted q x xs =
     let k = before_later x.at xs in
     let parts : count_at q (take k xs ++ x ∷ drop k xs) ≡ count_at q (take k xs) + count_at q (x ∷ drop k xs) = count_at-append q (take k xs) (x ∷ drop k xs) in
-    let one : count_at q (x ∷ drop k xs) ≡ bit q x + count_at q (drop k xs) = count_at-cons q x (drop k xs) in
-    let whole : count_at q xs ≡ count_at q (take k xs) + count_at q (drop k xs) = ap (count_at q) (sym (take-append-drop k xs)) ∙ count_at-append q (take k xs) (drop k xs) in
+    let one : count_at q (x ∷ drop k xs) ≡ bit_of (stands_at q x) + count_at q (drop k xs) = count_at-cons q x (drop k xs) in
+    let whole : count_at q xs ≡ count_at q (take k xs) + count_at q (drop k xs) = ap (count_at q) (sym (take-append-drop k xs))
+    ∙ count_at-append q (take k xs) (drop k xs) in
     omega arith
 
 -- and has what all have

@@ -31,4 +31,5 @@ same_lap p q n order near same =
 pub place-apart : (f : Frame) (from p q : ℕ) → from ≤ p → p < from + f.slots → from ≤ q → q < from + f.slots → p ≢ q → place f p ≢ place f q
 place-apart f from p q p_from p_to q_from q_to ne same =
     let rest : p % f.slots ≡ q % f.slots = omega arith in
-    ⊎_elim (λ (less : p < q). ne (same_lap p q f.slots (omega arith) (omega arith) rest)) (λ (over : q ≤ p). ne (sym (same_lap q p f.slots over (omega arith) (sym rest)))) (cases_lt p q)
+    ⊎_elim (λ (less : p < q). ne (same_lap p q f.slots (omega arith) (omega arith) rest))
+    (λ (over : q ≤ p). ne (sym (same_lap q p f.slots over (omega arith) (sym rest)))) (cases_lt p q)

@@ -8,7 +8,8 @@ use Rattle.go_core.specs.declared.entry.Entry.{Entry}
 use Rattle.go_core.specs.View.{stands_at, numbered, without, is_after, before_later}
 
 -- one more edge is numbered by how many there were
-pub numbered_push : (p : ℕ) (es : List Edge) (e : Edge) (q : ℕ) → q ≡ p + length es → numbered p (es ++ e ∷ []) ≡ numbered p es ++ record { at = q; edge = e } ∷ []
+pub numbered_push : (p : ℕ) (es : List Edge) (e : Edge) (q : ℕ) → q ≡ p + length es
+    → numbered p (es ++ e ∷ []) ≡ numbered p es ++ record { at = q; edge = e } ∷ []
 numbered_push p [] e q is = let here : p ≡ q = omega arith in ap (λ (n : ℕ). record { at = n; edge = e } ∷ []) here
 numbered_push p (x ∷ es) e q is = ap (λ ys. record { at = p; edge = x } ∷ ys) (numbered_push (p + 1) es e q (omega arith))
 
@@ -31,7 +32,8 @@ suffix-push p xs y = ap (prefix_len (is_after p)) (reverse-append xs (y ∷ []))
 
 pub before_later-later : (p : ℕ) (xs : List Entry) (y : Entry) → is_after p y ≡ true → before_later p (xs ++ y ∷ []) ≡ before_later p xs
 before_later-later p xs y later =
-    let more : suffix_len (is_after p) (xs ++ y ∷ []) ≡ 1 + suffix_len (is_after p) xs = suffix-push p xs y ∙ ap (λ b. cond b (1 + suffix_len (is_after p) xs) 0) later in
+    let more : suffix_len (is_after p) (xs ++ y ∷ []) ≡ 1 + suffix_len (is_after p) xs = suffix-push p xs y
+    ∙ ap (λ b. cond b (1 + suffix_len (is_after p) xs) 0) later in
     omega (arith, length_push xs y)
 
 pub before_later-other : (p : ℕ) (xs : List Entry) (y : Entry) → is_after p y ≡ false → before_later p (xs ++ y ∷ []) ≡ length xs + 1
@@ -44,7 +46,8 @@ pub record Through (xs rest : List Entry) (k : ℕ) : Type 0 where
   pub left : rest ≡ drop k xs
   pub adds_up : k + length rest ≡ length xs
 
-pub through_step : (xs rest rest' : List Entry) (k : ℕ) (y : Entry) → Through xs rest k → rest ≡ y ∷ rest' → Through xs rest' (k + 1) × (take (k + 1) xs ≡ take k xs ++ y ∷ [])
+pub through_step : (xs rest rest' : List Entry) (k : ℕ) (y : Entry) → Through xs rest k → rest ≡ y ∷ rest'
+    → Through xs rest' (k + 1) × (take (k + 1) xs ≡ take k xs ++ y ∷ [])
 through_step xs rest rest' k y t is =
     let left : drop k xs ≡ y ∷ rest' = sym t.left ∙ is in
     let some : length rest ≡ 1 + length rest' = ap length is ∙ omega arith in
@@ -65,20 +68,27 @@ through_step xs rest rest' k y t is =
         (ap (λ n. drop n (x ∷ xs)) step ∙ rest.0, ap (λ n. take n (x ∷ xs)) step ∙ ap (λ zs. x ∷ zs) rest.1)
 
 -- the edges so far and the next one, numbered
-pub numbered_more : (p : ℕ) (es : List Edge) (i : ℕ) (d : Edge) (list : List Entry) (at : ℕ) → i < length es → list ≡ numbered p (take i es) → at ≡ p + i → list ++ record { at = at; edge = get_or es i d } ∷ [] ≡ numbered p (take (i + 1) es)
+pub numbered_more : (p : ℕ) (es : List Edge) (i : ℕ) (d : Edge) (list : List Entry) (at : ℕ) → i < length es → list ≡ numbered p (take i es) → at ≡ p + i
+    → list ++ record { at = at; edge = get_or es i d } ∷ [] ≡ numbered p (take (i + 1) es)
 numbered_more p es i d list at within is next =
     let short : length (take i es) ≡ i = length-take-le i es (omega arith) in
     let more : take (i + 1) es ≡ take i es ++ get_or es i d ∷ [] = take_more es i d within in
-    ap (λ ys. ys ++ record { at = at; edge = get_or es i d } ∷ []) is ∙ sym (numbered_push p (take i es) (get_or es i d) at (omega arith)) ∙ ap (numbered p) (sym more)
+    ap (λ ys. ys ++ record { at = at; edge = get_or es i d } ∷ []) is ∙ sym (numbered_push p (take i es) (get_or es i d) at (omega arith))
+    ∙ ap (numbered p) (sym more)
 
 -- the entry that stands at a position is found: the list without it
-pub place_found : (p : ℕ) (xs rest rest' : List Entry) (k : ℕ) (y : Entry) → Through xs rest k → rest ≡ y ∷ rest' → without p xs ≡ take k xs ++ without p rest → stands_at p y ≡ true → without p xs ≡ take k xs ++ drop (k + 1) xs
+pub place_found : (p : ℕ) (xs rest rest' : List Entry) (k : ℕ) (y : Entry) → Through xs rest k → rest ≡ y ∷ rest' → without p xs ≡ take k xs ++ without p rest
+    → stands_at p y ≡ true → without p xs ≡ take k xs ++ drop (k + 1) xs
 place_found p xs rest rest' k y t is so_far here =
     let next = through_step xs rest rest' k y t is in
     so_far ∙ ap (λ zs. take k xs ++ without p zs) is ∙ ap (λ zs. take k xs ++ zs) (without-here p y rest' here ∙ next.0.left)
 
 -- and one that doesn't is passed
-pub place_passed : (p : ℕ) (xs rest rest' : List Entry) (k : ℕ) (y : Entry) → Through xs rest k → rest ≡ y ∷ rest' → without p xs ≡ take k xs ++ without p rest → stands_at p y ≡ false → Through xs rest' (k + 1) × (without p xs ≡ take (k + 1) xs ++ without p rest')
+pub place_passed : (p : ℕ) (xs rest rest' : List Entry) (k : ℕ) (y : Entry) → Through xs rest k → rest ≡ y ∷ rest'
+    → without p xs ≡ take k xs ++ without p rest → stands_at p y ≡ false → Through xs rest' (k + 1) × (without p xs ≡ take (k + 1) xs ++ without p rest')
 place_passed p xs rest rest' k y t is so_far other =
-    let next = through_step xs rest rest' k y t is in
-    (next.0, so_far ∙ ap (λ zs. take k xs ++ without p zs) is ∙ ap (λ zs. take k xs ++ zs) (without-other p y rest' other) ∙ sym (append_assoc (take k xs) (y ∷ []) (without p rest')) ∙ ap (λ zs. zs ++ without p rest') (sym next.1))
+    let next = through_step xs rest rest' k y t is in (
+      next.0,
+      so_far ∙ ap (λ zs. take k xs ++ without p zs) is ∙ ap (λ zs. take k xs ++ zs) (without-other p y rest' other)
+          ∙ sym (append_assoc (take k xs) (y ∷ []) (without p rest')) ∙ ap (λ zs. zs ++ without p rest') (sym next.1),
+    )

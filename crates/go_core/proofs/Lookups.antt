@@ -1,5 +1,9 @@
 -- What stands at a place of a list, after a write and after more were put to its end.
-use Rattle.std.proofs.Common.{◌≡◌, ℕ, zero, suc, ◌+◌, ◌<◌, ◌≢◌, ◌⊎◌, List, [], ◌∷◌, ◌++◌, length, get_or, set, sym, refl, ap, ◌∙◌, inl, inr, ⊎_elim, arith}
+use Rattle.std.proofs.Common.{◌≡◌, ℕ, zero, suc, ◌+◌, ◌<◌, ◌≢◌, ◌⊎◌, Bool, true, false, cond, List, [], ◌∷◌, ◌++◌, length, get_or, set, sym, refl, ap, ◌∙◌}
+use Rattle.std.proofs.Common.{inl, inr, ⊎_elim, arith}
+use Rattle.std.specs.Prelude.{Contains, Some, find}
+use Rattle.std.proofs.lemmas.Bool.{cases_Bool}
+use Rattle.std.proofs.lemmas.Option.{same_Some, none-some}
 use mathlib.Core.Option.{some, some-injective, some-ne-none}
 use lib.ListN.{get_elem?}
 
@@ -75,3 +79,15 @@ module _ {A : Type 0} where
   lookup-last [] a b (suc j) there = absurd (some-ne-none b (sym there))
   lookup-last (x ∷ xs) a b zero there = inl there
   lookup-last (x ∷ xs) a b (suc j) there = lookup-last xs a b j there
+
+  -- what a search finds is in the list, and passes
+  pub find-Some : (test : A → Bool) (xs : List A) (a : A) → find test xs ≡ Some a → Contains xs a × (test a ≡ true)
+  find-Some test [] a found = absurd (none-some a found)
+  find-Some test (x ∷ xs) a found =
+      ⊎_elim
+      (λ (here : test x ≡ true).
+      let is : x ≡ a = same_Some x a (sym (ap (λ b. cond b (Some x) (find test xs)) here) ∙ found) in
+      ((0, omega arith, is), ap test (sym is) ∙ here))
+      (λ (other : test x ≡ false).
+      let rest = find-Some test xs a (sym (ap (λ b. cond b (Some x) (find test xs)) other) ∙ found) in
+      ((suc rest.0.0, (let less = rest.0.1 in omega arith), rest.0.2), rest.1)) (cases_Bool (test x))

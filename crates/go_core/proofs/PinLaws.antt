@@ -1,27 +1,25 @@
 -- Pins by their names, and lists of pins that are the same.
-use Rattle.std.proofs.Common.{◌≡◌, ℕ, zero, suc, ◌<◌, Bool, true, false, cond, List, [], ◌∷◌, ◌++◌, length, get_or, Option, Some, None, sym, refl, ap, ◌∙◌, ⊎_elim, arith}
+use Rattle.std.proofs.Common.{◌≡◌, ℕ, zero, suc, ◌<◌, Bool, true, false, cond, List, [], ◌∷◌, ◌++◌, length, get_or, Option, Some, None, refl, ap, ◌∙◌}
+use Rattle.std.proofs.Common.{⊎_elim, arith}
 use Rattle.std.specs.Prelude.{Contains, find, is_some, ◌==◌, ◌&&◌, ◌||◌}
 use Rattle.std.specs.Option.{option_or}
 use Rattle.std.proofs.lemmas.Bool.{cases_Bool, false≢true}
 use Rattle.std.proofs.lemmas.Bool.Decides.{nat_tests}
-use Rattle.std.proofs.lemmas.Option.{same_Some, none-some}
 use Rattle.std.proofs.lemmas.List.Folds.{find-append}
 use lib.Pointwise.{pointwise}
-use Rattle.go_core.specs.declared.pin.Pin.{Pin}
-use Rattle.go_core.specs.Pins.{is_named, has_name}
+use Rattle.go_word.specs.declared.pin.Pin.{Pin}
+use Rattle.go_word.specs.Pins.{is_named, has_name}
+use Rattle.go_core.proofs.Lookups.{find-Some}
 
 -- a pin that was found is among them, and has the name
 pub named_in : (id : ℕ) (pins : List Pin) (p : Pin) → find (is_named id) pins ≡ Some p → Contains pins p × (p.id ≡ id)
-named_in id [] p found = absurd (none-some p found)
-named_in id (q ∷ qs) p found =
-    ⊎_elim
-    (λ (here : is_named id q ≡ true).
-    let is : q ≡ p = same_Some q p (sym (ap (λ b. cond b (Some q) (find (is_named id) qs)) here) ∙ found) in
-    let same : q.id ≡ id = grind (arith, nat_tests) in
-    ((0, omega arith, is), ap (λ z. z.id) (sym is) ∙ same))
-    (λ (other : is_named id q ≡ false).
-    let rest = named_in id qs p (sym (ap (λ b. cond b (Some q) (find (is_named id) qs)) other) ∙ found) in
-    ((suc rest.0.0, (let less = rest.0.1 in omega arith), rest.0.2), rest.1)) (cases_Bool (is_named id q))
+named_in id pins p found =
+    let there = find-Some (is_named id) pins p found in
+    let is = there.1 in
+    (there.0, named p is)
+  where
+    named : (q : Pin) → is_named id q ≡ true → q.id ≡ id
+    named q is = grind (arith, nat_tests)
 
 -- a name is there where its pin is the first, or is in the rest
 has-cons : (id : ℕ) (q : Pin) (qs : List Pin) (b : Bool) → is_named id q ≡ b → has_name id (q ∷ qs) ≡ cond b true (has_name id qs)

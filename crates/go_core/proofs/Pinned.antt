@@ -5,9 +5,10 @@ use Rattle.std.proofs.lemmas.Bool.{cases_Bool, both_ways, false≢true, not-true
 use Rattle.std.proofs.lemmas.List.Elements.{All-nil, All-append, All-push, All-set, All-contains, Contains-get_or, filter_passes}
 use mathlib.Core.Option.{some}
 use lib.ListN.{get_elem?}
-use Rattle.go_core.specs.declared.pin.Pin.{Pin}
+use Rattle.go_word.specs.declared.pin.Pin.{Pin}
 use Rattle.go_core.specs.declared.part.PartState.{PartState}
-use Rattle.go_core.specs.Pins.{is_named, has_name, owns_name}
+use Rattle.go_word.specs.Pins.{is_named, has_name}
+use Rattle.go_core.specs.Pins.{owns_name, is_own_or_new}
 use Rattle.go_core.specs.Parts.{KeepsPins, IsPinnedBy, ArePinned}
 use Rattle.go_core.proofs.Lookups.{lookup-get_or, lookup-set_other, lookup-same}
 use Rattle.go_core.proofs.PinLaws.{named_in, has-in, has-pin, has-append}
@@ -27,11 +28,14 @@ bit_sum false b c implies = omega arith
 
 -- the names that a filter leaves pass it
 pub named_passes : (test : Pin → Bool) (all : List Pin) (id : ℕ) → has_name id (filter test all) ≡ true → (p : Pin) × (test p ≡ true) × (p.id ≡ id)
-named_passes test all id is = let found = has-pin id (filter test all) is in (found.0, All-contains (λ x. test x ≡ true) (filter test all) found.0 (filter_passes test all) found.1, found.2)
+named_passes test all id is = let found = has-pin id (filter test all) is in
+    (found.0, All-contains (λ x. test x ≡ true) (filter test all) found.0 (filter_passes test all) found.1, found.2)
 
 module _ {S : Type 0} (pins put : S → List Pin) (has : S → Bool) where
   -- one party has other pins, and no name more
-  pub pinned_set : (held : List Pin) (parties : List S) (i : ℕ) (s s' : S) → get_elem? parties i ≡ some s → IsPinnedBy pins put has held s' → ((id : ℕ) → owns_name id (pins s') (put s') ≡ true → owns_name id (pins s) (put s) ≡ true) → ArePinned pins put has held parties → ArePinned pins put has held (set parties i s')
+  pub pinned_set : (held : List Pin) (parties : List S) (i : ℕ) (s s' : S) → get_elem? parties i ≡ some s → IsPinnedBy pins put has held s'
+      → ((id : ℕ) → owns_name id (pins s') (put s') ≡ true → owns_name id (pins s) (put s) ≡ true) → ArePinned pins put has held parties
+      → ArePinned pins put has held (set parties i s')
   pinned_set held parties i s s' there one fewer are =
       record {
         each = All-set (IsPinnedBy pins put has held) parties i s' one are.each;
@@ -43,7 +47,8 @@ module _ {S : Type 0} (pins put : S → List Pin) (has : S → Bool) where
       }
 
   -- a party comes that holds none
-  pub pinned_more : (held : List Pin) (parties : List S) (s : S) → pins s ≡ [] → put s ≡ [] → ArePinned pins put has held parties → ArePinned pins put has held (parties ++ s ∷ [])
+  pub pinned_more : (held : List Pin) (parties : List S) (s : S) → pins s ≡ [] → put s ≡ [] → ArePinned pins put has held parties
+      → ArePinned pins put has held (parties ++ s ∷ [])
   pinned_more held parties s none none_put are =
       record {
         each = All-push (IsPinnedBy pins put has held) parties s are.each
@@ -57,15 +62,18 @@ module _ {S : Type 0} (pins put : S → List Pin) (has : S → Bool) where
       }
 
   -- another party is joined in, which has no turn
-  pub pinned_joined : (held : List Pin) (parties : List S) (i j : ℕ) (s o both gone : S) → j ≢ i → get_elem? parties i ≡ some s → get_elem? parties j ≡ some o → IsPinnedBy pins put has held s → IsPinnedBy pins put has held o → has o ≡ false → has both ≡ has s
-      → pins both ≡ pins s ++ pins o → put both ≡ put s → pins gone ≡ [] → put gone ≡ [] → ArePinned pins put has held parties → ArePinned pins put has held (set (set parties i both) j gone)
+  pub pinned_joined : (held : List Pin) (parties : List S) (i j : ℕ) (s o both gone : S) → j ≢ i → get_elem? parties i ≡ some s → get_elem? parties j ≡ some o
+      → IsPinnedBy pins put has held s → IsPinnedBy pins put has held o → has o ≡ false → has both ≡ has s
+      → pins both ≡ pins s ++ pins o → put both ≡ put s → pins gone ≡ [] → put gone ≡ [] → ArePinned pins put has held parties
+      → ArePinned pins put has held (set (set parties i both) j gone)
   pinned_joined held parties i j s o both gone ne there other mine theirs free turn all_pins as_put none none_put are =
       record {
         each = All-set (IsPinnedBy pins put has held) (set parties i both) j gone
             (record { pinned = λ _. subst (All (Contains held)) (sym none) (All-nil (Contains held)); none_put = λ _. none_put })
             (All-set (IsPinnedBy pins put has held) parties i both
             (record {
-              pinned = λ not'. subst (All (Contains held)) (sym all_pins) (All-append (Contains held) (pins s) (pins o) (mine.pinned (sym turn ∙ not')) (theirs.pinned free));
+              pinned = λ not'. subst (All (Contains held)) (sym all_pins)
+                  (All-append (Contains held) (pins s) (pins o) (mine.pinned (sym turn ∙ not')) (theirs.pinned free));
               none_put = λ not'. as_put ∙ mine.none_put (sym turn ∙ not');
             }) are.each);
         apart = λ id.
@@ -73,24 +81,30 @@ module _ {S : Type 0} (pins put : S → List Pin) (has : S → Bool) where
             let first = count-set (λ x. owns_name id (pins x) (put x)) parties i s both there in
             let second = count-set (λ x. owns_name id (pins x) (put x)) (set parties i both) j o gone other' in
             let few = are.apart id in
-            let no_name : owns_name id (pins gone) (put gone) ≡ false = ap (λ ps. has_name id ps || has_name id (put gone)) none ∙ ap (λ ps. has_name id ps) none_put in
+            let no_name : owns_name id (pins gone) (put gone) ≡ false = ap (λ ps. has_name id ps || has_name id (put gone)) none
+            ∙ ap (λ ps. has_name id ps) none_put in
             let nothing : bit_of (owns_name id (pins gone) (put gone)) ≡ 0 = ap bit_of no_name in
-            let sum = bit_sum (owns_name id (pins both) (put both)) (owns_name id (pins s) (put s)) (owns_name id (pins o) (put o)) (λ is. joined_name id s o both all_pins as_put is) in
+            let sum = bit_sum (owns_name id (pins both) (put both)) (owns_name id (pins s) (put s)) (owns_name id (pins o) (put o))
+            (λ is. joined_name id s o both all_pins as_put is) in
             omega arith);
       }
     where
-      joined_name : (id : ℕ) (s o both : S) → pins both ≡ pins s ++ pins o → put both ≡ put s → owns_name id (pins both) (put both) ≡ true → (owns_name id (pins s) (put s) || owns_name id (pins o) (put o)) ≡ true
+      joined_name : (id : ℕ) (s o both : S) → pins both ≡ pins s ++ pins o → put both ≡ put s → owns_name id (pins both) (put both) ≡ true
+          → (owns_name id (pins s) (put s) || owns_name id (pins o) (put o)) ≡ true
       joined_name id s o both all_pins as_put is =
           ⊎_elim
           (λ in_pins.
           ⊎_elim (λ mine. or_left (owns_name id (pins s) (put s)) (owns_name id (pins o) (put o)) (or_left (has_name id (pins s)) (has_name id (put s)) mine))
           (λ theirs. or_right (owns_name id (pins s) (put s)) (owns_name id (pins o) (put o)) (or_left (has_name id (pins o)) (has_name id (put o)) theirs))
           (or_cases (has_name id (pins s)) (has_name id (pins o)) (sym (has-append id (pins s) (pins o)) ∙ ap (has_name id) (sym all_pins) ∙ in_pins)))
-          (λ in_put. or_left (owns_name id (pins s) (put s)) (owns_name id (pins o) (put o)) (or_right (has_name id (pins s)) (has_name id (put s)) (ap (has_name id) (sym as_put) ∙ in_put)))
+          (λ in_put. or_left (owns_name id (pins s) (put s)) (owns_name id (pins o) (put o))
+          (or_right (has_name id (pins s)) (has_name id (put s)) (ap (has_name id) (sym as_put) ∙ in_put)))
           (or_cases (has_name id (pins both)) (has_name id (put both)) is)
 
   -- the party that has the turn puts the shard in
-  module _ (parties : List S) (i : ℕ) (s s' : S) (archived : ℕ) (old new : PartState) (there : get_elem? parties i ≡ some s) (mine : has s ≡ true) (few : count_by has parties ≤ 1) (keeps : KeepsPins archived (λ id. owns_name id (pins s) (put s)) old new) (are : ArePinned pins put has old.pins parties) where
+  module _ (parties : List S) (i : ℕ) (s s' : S) (archived : ℕ) (old new : PartState) (there : get_elem? parties i ≡ some s) (mine : has s ≡ true)
+      (few : count_by has parties ≤ 1) (keeps : KeepsPins archived (λ id. owns_name id (pins s) (put s)) old new)
+      (are : ArePinned pins put has old.pins parties) where
     -- another party has no turn
     no_turn : (k : ℕ) (t : S) → k ≢ i → get_elem? parties k ≡ some t → has t ≡ false
     no_turn k t ne other = ⊎_elim (λ theirs. absurd (not_two has parties i k s t ne there other few mine theirs)) (λ free. free) (cases_Bool (has t))
@@ -98,7 +112,9 @@ module _ {S : Type 0} (pins put : S → List Pin) (has : S → Bool) where
     -- and a name of its pins isn't that of the party with the turn
     not_mine : (k : ℕ) (t : S) (id : ℕ) → k ≢ i → get_elem? parties k ≡ some t → owns_name id (pins t) (put t) ≡ true → owns_name id (pins s) (put s) ≡ false
     not_mine k t id ne other theirs =
-        ⊎_elim (λ (own : owns_name id (pins s) (put s) ≡ true). absurd (not_two (λ x. owns_name id (pins x) (put x)) parties i k s t ne there other (are.apart id) own theirs)) (λ free. free) (cases_Bool (owns_name id (pins s) (put s)))
+        ⊎_elim (λ (own : owns_name id (pins s) (put s) ≡ true). absurd
+        (not_two (λ x. owns_name id (pins x) (put x)) parties i k s t ne there other (are.apart id) own theirs)) (λ free. free)
+        (cases_Bool (owns_name id (pins s) (put s)))
 
     -- so what another party holds is still there
     still_held : All (IsPinnedBy pins put has new.pins) parties
@@ -111,8 +127,10 @@ module _ {S : Type 0} (pins put : S → List Pin) (has : S → Bool) where
               let ne : k ≢ i = λ same. both_ways (has t) free (ap has (lookup-same parties i t s (sym (ap (get_elem? parties) same) ∙ other) there) ∙ mine) in
               let held : Contains old.pins pin = (are.each k d within).pinned free q e inside in
               let named : has_name pin.id (pins t) ≡ true = has-in (pins t) pin (Contains-get_or (pins t) q e inside) in
-              let not' : owns_name pin.id (pins s) (put s) ≡ false = not_mine k t pin.id ne other (or_left (has_name pin.id (pins t)) (has_name pin.id (put t)) named) in
-              let stays : find (is_named pin.id) new.pins ≡ Some pin = All-contains (λ x. owns_name x.id (pins s) (put s) ≡ false → find (is_named x.id) new.pins ≡ Some x) old.pins pin keeps.others held not' in
+              let not' : owns_name pin.id (pins s) (put s) ≡ false = not_mine k t pin.id ne other
+              (or_left (has_name pin.id (pins t)) (has_name pin.id (put t)) named) in
+              let stays : find (is_named pin.id) new.pins ≡ Some pin = All-contains
+              (λ x. owns_name x.id (pins s) (put s) ≡ false → find (is_named x.id) new.pins ≡ Some x) old.pins pin keeps.others held not' in
               (named_in pin.id new.pins pin stays).0);
           none_put = (are.each k d within).none_put;
         }
@@ -126,11 +144,13 @@ module _ {S : Type 0} (pins put : S → List Pin) (has : S → Bool) where
         let other : get_elem? parties k ≡ some t = lookup-get_or parties k d within in
         ⊎_elim
         (λ (theirs : owns_name id (pins t) (put t) ≡ true).
-        let ne : k ≢ i = λ same. both_ways (owns_name id (pins t) (put t)) (ap (λ x. owns_name id (pins x) (put x)) (lookup-same parties i t s (sym (ap (get_elem? parties) same) ∙ other) there) ∙ not') theirs in
+        let ne : k ≢ i = λ same. both_ways (owns_name id (pins t) (put t))
+        (ap (λ x. owns_name id (pins x) (put x)) (lookup-same parties i t s (sym (ap (get_elem? parties) same) ∙ other) there) ∙ not') theirs in
         let free : has t ≡ false = no_turn k t ne other in
         let one = are.each k d within in
         let named : has_name id (pins t) ≡ true =
-        ⊎_elim (λ in_pins. in_pins) (λ in_put. absurd (false≢true (sym (ap (has_name id) (one.none_put free)) ∙ in_put))) (or_cases (has_name id (pins t)) (has_name id (put t)) theirs)
+        ⊎_elim (λ in_pins. in_pins) (λ in_put. absurd (false≢true (sym (ap (has_name id) (one.none_put free)) ∙ in_put)))
+        (or_cases (has_name id (pins t)) (has_name id (put t)) theirs)
         in
         let found = has-pin id (pins t) named in
         let held : Contains old.pins found.0 = All-contains (Contains old.pins) (pins t) found.0 (one.pinned free) found.1 in
@@ -138,11 +158,13 @@ module _ {S : Type 0} (pins put : S → List Pin) (has : S → Bool) where
         absurd (both_ways (has_name id old.pins) fresh there'))
         (λ none. none) (cases_Bool (owns_name id (pins t) (put t)))))
 
-    pub pinned_put : has s' ≡ true → pins s' ≡ pins s → put s' ≡ filter (λ pin. owns_name pin.id (pins s) (put s) || not (has_name pin.id old.pins)) new.pins → ArePinned pins put has new.pins (set parties i s')
+    pub pinned_put : has s' ≡ true → pins s' ≡ pins s → put s' ≡ filter (is_own_or_new (pins s) (put s) old.pins) new.pins
+        → ArePinned pins put has new.pins (set parties i s')
     pinned_put turn same_pins is_put =
-        let test : Pin → Bool = λ pin. owns_name pin.id (pins s) (put s) || not (has_name pin.id old.pins) in
+        let test : Pin → Bool = is_own_or_new (pins s) (put s) old.pins in
         record {
-          each = All-set (IsPinnedBy pins put has new.pins) parties i s' (record { pinned = λ free. absurd (both_ways (has s') free turn); none_put = λ free. absurd (both_ways (has s') free turn) }) still_held;
+          each = All-set (IsPinnedBy pins put has new.pins) parties i s'
+              (record { pinned = λ free. absurd (both_ways (has s') free turn); none_put = λ free. absurd (both_ways (has s') free turn) }) still_held;
           apart = λ id.
               (let change = count-set (λ x. owns_name id (pins x) (put x)) parties i s s' there in
               let before = are.apart id in
@@ -153,15 +175,19 @@ module _ {S : Type 0} (pins put : S → List Pin) (has : S → Bool) where
               (λ (not' : owns_name id (pins s) (put s) ≡ false).
               let neither = or_parts (has_name id (pins s)) (has_name id (put s)) not' in
               let in_put : has_name id (put s') ≡ true =
-              ⊎_elim (λ in_pins. absurd (both_ways (has_name id (pins s)) neither.0 (ap (has_name id) (sym same_pins) ∙ in_pins))) (λ in_put. in_put) (or_cases (has_name id (pins s')) (has_name id (put s')) now)
+              ⊎_elim (λ in_pins. absurd (both_ways (has_name id (pins s)) neither.0 (ap (has_name id) (sym same_pins) ∙ in_pins))) (λ in_put. in_put)
+              (or_cases (has_name id (pins s')) (has_name id (put s')) now)
               in
               let found = named_passes test new.pins id (ap (has_name id) (sym is_put) ∙ in_put) in
-              let passed : (owns_name id (pins s) (put s) || not (has_name id old.pins)) ≡ true = ap (λ n. owns_name n (pins s) (put s) || not (has_name n old.pins)) (sym found.2) ∙ found.1 in
+              let passed : (owns_name id (pins s) (put s) || not (has_name id old.pins)) ≡ true = ap
+              (λ n. owns_name n (pins s) (put s) || not (has_name n old.pins)) (sym found.2) ∙ found.1 in
               let fresh : has_name id old.pins ≡ false =
-              ⊎_elim (λ own. absurd (both_ways (owns_name id (pins s) (put s)) not' own)) (λ new'. not-true (has_name id old.pins) new') (or_cases (owns_name id (pins s) (put s)) (not (has_name id old.pins)) passed)
+              ⊎_elim (λ own. absurd (both_ways (owns_name id (pins s) (put s)) not' own)) (λ new'. not-true (has_name id old.pins) new')
+              (or_cases (owns_name id (pins s) (put s)) (not (has_name id old.pins)) passed)
               in
               let zero' = nobody id not' fresh in
               let was : bit_of (owns_name id (pins s) (put s)) ≡ 0 = ap bit_of not' in
               omega arith) (cases_Bool (owns_name id (pins s) (put s))))
-              (λ (none : owns_name id (pins s') (put s') ≡ false). let nothing : bit_of (owns_name id (pins s') (put s')) ≡ 0 = ap bit_of none in omega arith) (cases_Bool (owns_name id (pins s') (put s'))));
+              (λ (none : owns_name id (pins s') (put s') ≡ false). let nothing : bit_of (owns_name id (pins s') (put s')) ≡ 0 = ap bit_of none in omega arith)
+              (cases_Bool (owns_name id (pins s') (put s'))));
         }

@@ -1,5 +1,6 @@
 -- What a machine that stands allows its parties: numbers that fit, and entries that words can hold.
-use Rattle.std.proofs.Common.{◌≡◌, ℕ, ◌+◌, ◌^◌, ◌<◌, ◌≤◌, ◌⊎◌, true, List, length, get_or, ◌++◌, Option, Some, None, Result, Ok, Err, sym, refl, ap, ◌∙◌, inl, inr, ⊎_elim, arith, subst}
+use Rattle.std.proofs.Common.{◌≡◌, ℕ, ◌+◌, ◌^◌, ◌<◌, ◌≤◌, ◌⊎◌, true, List, length, get_or, ◌++◌, Option, Some, None, Result, Ok, Err, sym, refl, ap, ◌∙◌}
+use Rattle.std.proofs.Common.{inl, inr, ⊎_elim, arith, subst}
 use Rattle.std.specs.Prelude.{All, find, sum_by, IfOk, OnErr}
 use Rattle.std.proofs.lemmas.Bool.{cases_lt}
 use Rattle.std.proofs.lemmas.List.{length-map, get_or_past, get_or_default}
@@ -10,7 +11,8 @@ use lib.ListN.{get_elem?}
 use Rattle.go_word.specs.declared.edge.Edge.{Edge}
 use Rattle.go_word.specs.Word.{IsStorable}
 use Rattle.go_core.specs.declared.act.Act.{Act}
-use Rattle.go_core.specs.declared.act.Act.TheVariants.{Claim, LoadHead, LoadArchived, LoadDurable, StoreWord, LoadOrdered, LoadTentative, StoreArchived, StoreDurable, TakeTurn, PartOut, PartIn, GiveTurn, LoadFlag, StoreFlag, Split, Join}
+use Rattle.go_core.specs.declared.act.Act.TheVariants.{Claim, LoadHead, LoadArchived, LoadDurable, StoreWord, LoadOrdered, LoadTentative, StoreArchived}
+use Rattle.go_core.specs.declared.act.Act.TheVariants.{StoreDurable, TakeTurn, PartOut, PartIn, GiveTurn, LoadFlag, StoreFlag, Split, Join}
 use Rattle.go_core.specs.declared.act.Out.{Out}
 use Rattle.go_core.specs.declared.act.Out.TheVariants.{Refused}
 use Rattle.go_core.specs.declared.entry.Entry.{Entry}
@@ -25,6 +27,7 @@ use Rattle.go_core.specs.Machine.{Machine, IsTied, Stands, IsReady, absent, view
 use Rattle.go_core.proofs.Lookups.{lookup-get_or}
 use Rattle.go_core.proofs.Totals.{term-le}
 use Rattle.go_core.proofs.Entries.{count_at-Contains}
+use Rattle.go_core.proofs.Moved.{within_log}
 use Rattle.go_core.proofs.Parted.{view_at}
 use Rattle.go_core.proofs.Rows.{row_keeps}
 
@@ -38,15 +41,17 @@ seated_or_absent m i =
     (λ (past : length m.parties ≤ i). inr (get_or_past m.parties i absent past)) (cases_lt i (length m.parties))
 
 -- pending entries stand at positions that the machine serves
-storable_pending : (f : Frame) (log : List Edge) (words : List ℕ) (views : List View) (i : ℕ) (v : View) → get_elem? views i ≡ some v → TiedBy f log words views → All (λ x. IsStorable x.edge) v.pending
+storable_pending : (f : Frame) (log : List Edge) (words : List ℕ) (views : List View) (i : ℕ) (v : View) → get_elem? views i ≡ some v
+    → TiedBy f log words views → All (λ x. IsStorable x.edge) v.pending
 storable_pending f log words views i v there tied k d within =
     let s = tied.seated i v there in
     let x : Entry = get_or v.pending k d in
-    let of_log : IsOf log x = s.pending_of k d within in
+    let of_log : IsOf log x = s.owes.pending_of k d within in
     let counted : 0 < count_at x.at v.pending = count_at-Contains v.pending x (k, within, get_or_default v.pending k x d within) in
     let term : stands x.at v ≤ sum_by (stands x.at) views = term-le (stands x.at) views i v there in
     let from : f.first ≤ x.at =
-    ⊎_elim (λ (less : x.at < f.first). let none : sum_by (stands x.at) views ≡ 0 = tied.none_before x.at less in absurd (omega arith)) (λ over. over) (cases_lt x.at f.first)
+    ⊎_elim (λ (less : x.at < f.first). let none : sum_by (stands x.at) views ≡ 0 = tied.stand.before x.at less in absurd (omega arith)) (λ over. over)
+    (cases_lt x.at f.first)
     in
     tied.storable x.at x.edge from of_log
 
@@ -61,16 +66,14 @@ ready m i base stands =
     (λ there.
     let v = (party_at m i).view in
     let s = t.seated i v there in
-    let taken = s.taken_to in
-    let seen : v.seen ≤ length stands.log =
-    ⊎_elim (λ (over : length stands.log < v.seen). let less = (s.seen_written (length stands.log) over).within in absurd (omega arith)) (λ under. under) (cases_lt (length stands.log) v.seen)
-    in
+    let taken = s.takes.to in
+    let seen : v.seen ≤ length stands.log = within_log stands.log (views_of m.parties) v.seen s.sees.written in
     (omega arith, storable_pending m.frame stands.log m.words (views_of m.parties) i v there t))
     (λ none.
     let P : Party → Type 0 = λ p. (p.view.taken ≤ 2 ^ 48) × All (λ x. IsStorable x.edge) p.view.pending in
     subst P (sym none) (omega arith, All-nil (λ x. IsStorable x.edge))) (seated_or_absent m i)
     in
-    record { some = r.some_slots; few = stands.few; words = r.all_words ∙ ap (λ n. n + m.frame.slots) base; taken = view.0; storable = view.1 }
+    record { some = r.shape.some_slots; few = stands.few; words = r.shape.all_words ∙ ap (λ n. n + m.frame.slots) base; taken = view.0; storable = view.1 }
 
 -- a dead party's store
 stores_dead : (m : Machine) (i at : ℕ) (o : Option Entry) → ((party_at m i).view.live ≡ true → ⊥) → Stores m i at o Refused m
@@ -107,48 +110,64 @@ pub stands_on : (m now : Machine) (log : List Edge) → now.frame ≡ m.frame �
 stands_on m now log frame stands tied = record { few = let old = stands.few in subst (λ (f : Frame). f.slots ≤ 2 ^ 48) (sym frame) old; log = log; tied = tied }
 
 -- the row of an act that is known, and leaves the parts
-pub one_row : (r : Result Out AllocError) (slots : ℕ) (words words' : List ℕ) (parties parties' : List Party) (parts : Parts) (i : ℕ) (act a : Act) → act ≡ a → IfOk r (λ out. (s first : ℕ) (ps : Parts) → Row (machine_of s first words parties ps) i a out (machine_of s first words' parties' ps))
+pub one_row : (r : Result Out AllocError) (slots : ℕ) (words words' : List ℕ) (parties parties' : List Party) (parts : Parts) (i : ℕ) (act a : Act) → act ≡ a
+    → IfOk r (λ out. (s first : ℕ) (ps : Parts) → Row (machine_of s first words parties ps) i a out (machine_of s first words' parties' ps))
     → IfOk r (λ out. (first : ℕ) → Row (machine_of slots first words parties parts) i act out (machine_of slots first words' parties' parts))
-one_row (Ok out) slots words words' parties parties' parts i act a is row = λ first. subst (λ b. Row (machine_of slots first words parties parts) i b out (machine_of slots first words' parties' parts)) (sym is) (row slots first parts)
+one_row (Ok out) slots words words' parties parties' parts i act a is row = λ first. subst
+    (λ b. Row (machine_of slots first words parties parts) i b out (machine_of slots first words' parties' parts)) (sym is) (row slots first parts)
 one_row (Err failed) slots words words' parties parties' parts i act a is row = tt
 
 -- of one that goes by the number of slots
-pub slot_row : (r : Result Out AllocError) (slots : ℕ) (words words' : List ℕ) (parties parties' : List Party) (parts : Parts) (i : ℕ) (act a : Act) → act ≡ a → IfOk r (λ out. (first : ℕ) (ps : Parts) → Row (machine_of slots first words parties ps) i a out (machine_of slots first words' parties' ps))
+pub slot_row : (r : Result Out AllocError) (slots : ℕ) (words words' : List ℕ) (parties parties' : List Party) (parts : Parts) (i : ℕ) (act a : Act) → act ≡ a
+    → IfOk r (λ out. (first : ℕ) (ps : Parts) → Row (machine_of slots first words parties ps) i a out (machine_of slots first words' parties' ps))
     → IfOk r (λ out. (first : ℕ) → Row (machine_of slots first words parties parts) i act out (machine_of slots first words' parties' parts))
-slot_row (Ok out) slots words words' parties parties' parts i act a is row = λ first. subst (λ b. Row (machine_of slots first words parties parts) i b out (machine_of slots first words' parties' parts)) (sym is) (row first parts)
+slot_row (Ok out) slots words words' parties parties' parts i act a is row = λ first. subst
+    (λ b. Row (machine_of slots first words parties parts) i b out (machine_of slots first words' parties' parts)) (sym is) (row first parts)
 slot_row (Err failed) slots words words' parties parties' parts i act a is row = tt
 
 -- of one that leaves the words and the parts
-pub one_row_parties : (r : Result Out AllocError) (slots : ℕ) (words : List ℕ) (parties parties' : List Party) (parts : Parts) (i : ℕ) (act a : Act) → act ≡ a → IfOk r (λ out. (s first : ℕ) (ws : List ℕ) (ps : Parts) → Row (machine_of s first ws parties ps) i a out (machine_of s first ws parties' ps))
+pub one_row_parties : (r : Result Out AllocError) (slots : ℕ) (words : List ℕ) (parties parties' : List Party) (parts : Parts) (i : ℕ) (act a : Act) → act ≡ a
+    → IfOk r (λ out. (s first : ℕ) (ws : List ℕ) (ps : Parts) → Row (machine_of s first ws parties ps) i a out (machine_of s first ws parties' ps))
     → IfOk r (λ out. (first : ℕ) → Row (machine_of slots first words parties parts) i act out (machine_of slots first words parties' parts))
-one_row_parties (Ok out) slots words parties parties' parts i act a is row = λ first. subst (λ b. Row (machine_of slots first words parties parts) i b out (machine_of slots first words parties' parts)) (sym is) (row slots first words parts)
+one_row_parties (Ok out) slots words parties parties' parts i act a is row = λ first. subst
+    (λ b. Row (machine_of slots first words parties parts) i b out (machine_of slots first words parties' parts)) (sym is) (row slots first words parts)
 one_row_parties (Err failed) slots words parties parties' parts i act a is row = tt
 
 -- of one that leaves the words alone
-pub one_row_parts : (r : Result Out AllocError) (slots : ℕ) (words : List ℕ) (parties parties' : List Party) (parts parts' : Parts) (i : ℕ) (act a : Act) → act ≡ a → IfOk r (λ out. (s first : ℕ) (ws : List ℕ) → Row (machine_of s first ws parties parts) i a out (machine_of s first ws parties' parts'))
+pub one_row_parts : (r : Result Out AllocError) (slots : ℕ) (words : List ℕ) (parties parties' : List Party) (parts parts' : Parts) (i : ℕ) (act a : Act)
+    → act ≡ a → IfOk r (λ out. (s first : ℕ) (ws : List ℕ) → Row (machine_of s first ws parties parts) i a out (machine_of s first ws parties' parts'))
     → IfOk r (λ out. (first : ℕ) → Row (machine_of slots first words parties parts) i act out (machine_of slots first words parties' parts'))
-one_row_parts (Ok out) slots words parties parties' parts parts' i act a is row = λ first. subst (λ b. Row (machine_of slots first words parties parts) i b out (machine_of slots first words parties' parts')) (sym is) (row slots first words)
+one_row_parts (Ok out) slots words parties parties' parts parts' i act a is row = λ first. subst
+    (λ b. Row (machine_of slots first words parties parts) i b out (machine_of slots first words parties' parts')) (sym is) (row slots first words)
 one_row_parts (Err failed) slots words parties parties' parts parts' i act a is row = tt
 
 -- of one that leaves the parts as they were given
-pub one_row_turn : (r : Result Out AllocError) (slots : ℕ) (words words' : List ℕ) (parties parties' : List Party) (parts : Parts) (i : ℕ) (act a : Act) → act ≡ a → IfOk r (λ out. (s first : ℕ) → Row (machine_of s first words parties parts) i a out (machine_of s first words' parties' parts))
+pub one_row_turn : (r : Result Out AllocError) (slots : ℕ) (words words' : List ℕ) (parties parties' : List Party) (parts : Parts) (i : ℕ) (act a : Act)
+    → act ≡ a → IfOk r (λ out. (s first : ℕ) → Row (machine_of s first words parties parts) i a out (machine_of s first words' parties' parts))
     → IfOk r (λ out. (first : ℕ) → Row (machine_of slots first words parties parts) i act out (machine_of slots first words' parties' parts))
-one_row_turn (Ok out) slots words words' parties parties' parts i act a is row = λ first. subst (λ b. Row (machine_of slots first words parties parts) i b out (machine_of slots first words' parties' parts)) (sym is) (row slots first)
+one_row_turn (Ok out) slots words words' parties parties' parts i act a is row = λ first. subst
+    (λ b. Row (machine_of slots first words parties parts) i b out (machine_of slots first words' parties' parts)) (sym is) (row slots first)
 one_row_turn (Err failed) slots words words' parties parties' parts i act a is row = tt
 
 -- a machine stands after a step, done or not
-pub stands_after : (slots first : ℕ) (words words' : List ℕ) (parties parties' : List Party) (parts parts' : Parts) (i : ℕ) (act : Act) (r : Result Out AllocError) → Stands (machine_of slots first words parties parts)
-    → IfOk r (λ out. (f : ℕ) → Row (machine_of slots f words parties parts) i act out (machine_of slots f words' parties' parts')) → OnErr r (words' ≡ words) → OnErr r (parties' ≡ parties) → OnErr r (parts' ≡ parts) → Stands (machine_of slots first words' parties' parts')
+pub stands_after : (slots first : ℕ) (words words' : List ℕ) (parties parties' : List Party) (parts parts' : Parts) (i : ℕ) (act : Act)
+    (r : Result Out AllocError) → Stands (machine_of slots first words parties parts)
+    → IfOk r (λ out. (f : ℕ) → Row (machine_of slots f words parties parts) i act out (machine_of slots f words' parties' parts')) → OnErr r (words' ≡ words)
+    → OnErr r (parties' ≡ parties) → OnErr r (parts' ≡ parts) → Stands (machine_of slots first words' parties' parts')
 stands_after slots first words words' parties parties' parts parts' i act (Ok out) stands row same_words same_parties same_parts =
     let m = machine_of slots first words parties parts in
     let now = machine_of slots first words' parties' parts' in
     stands_on m now (stands.log ++ claims act out) refl stands (row_keeps m i act out now stands.log (row first) stands.tied)
 stands_after slots first words words' parties parties' parts parts' i act (Err failed) stands row same_words same_parties same_parts =
     subst (λ ws. Stands (machine_of slots first ws parties' parts')) (sym same_words)
-    (subst (λ ps. Stands (machine_of slots first words ps parts')) (sym same_parties) (subst (λ hs. Stands (machine_of slots first words parties hs)) (sym same_parts) stands))
+    (subst (λ ps. Stands (machine_of slots first words ps parts')) (sym same_parties)
+    (subst (λ hs. Stands (machine_of slots first words parties hs)) (sym same_parts) stands))
 
 -- and what it was tied to, it still is, followed by what was claimed
-pub tied_after : (slots first : ℕ) (words words' : List ℕ) (parties parties' : List Party) (parts parts' : Parts) (i : ℕ) (act : Act) (r : Result Out AllocError) → IfOk r (λ out. (f : ℕ) → Row (machine_of slots f words parties parts) i act out (machine_of slots f words' parties' parts'))
-    → IfOk r (λ out. (log : List Edge) → IsTied (machine_of slots first words parties parts) log → IsTied (machine_of slots first words' parties' parts') (log ++ claims act out))
-tied_after slots first words words' parties parties' parts parts' i act (Ok out) row = λ log tied. row_keeps (machine_of slots first words parties parts) i act out (machine_of slots first words' parties' parts') log (row first) tied
+pub tied_after : (slots first : ℕ) (words words' : List ℕ) (parties parties' : List Party) (parts parts' : Parts) (i : ℕ) (act : Act)
+    (r : Result Out AllocError) → IfOk r (λ out. (f : ℕ) → Row (machine_of slots f words parties parts) i act out (machine_of slots f words' parties' parts'))
+    → IfOk r (λ out. (log : List Edge) → IsTied (machine_of slots first words parties parts) log
+    → IsTied (machine_of slots first words' parties' parts') (log ++ claims act out))
+tied_after slots first words words' parties parties' parts parts' i act (Ok out) row = λ log tied. row_keeps
+    (machine_of slots first words parties parts) i act out (machine_of slots first words' parties' parts') log (row first) tied
 tied_after slots first words words' parties parties' parts parts' i act (Err failed) row = tt

@@ -1,10 +1,12 @@
 -- A list of own entries stays in order of position where one is inserted.
-use Rattle.std.proofs.Common.{◌≡◌, ℕ, zero, suc, ◌+◌, ◌-◌, ◌<◌, ◌≤◌, ◌≢◌, true, false, List, [], ◌∷◌, ◌++◌, length, get_or, take, drop, reverse, sym, ap, ◌∙◌, ⊎_elim, arith, subst}
+use Rattle.std.proofs.Common.{◌≡◌, ℕ, zero, suc, ◌+◌, ◌-◌, ◌<◌, ◌≤◌, ◌≢◌, true, false, List, [], ◌∷◌, ◌++◌, length, get_or, take, drop, reverse, sym, ap}
+use Rattle.std.proofs.Common.{◌∙◌, ⊎_elim, arith, subst}
 use Rattle.std.specs.Prelude.{All, AllPairs, nat_lt}
 use Rattle.std.specs.List.{suffix_len}
 use Rattle.std.proofs.Math.Nat.{eq-or-lt_of_le}
+use Rattle.std.proofs.lemmas.Bool.{cases_lt}
 use Rattle.std.proofs.lemmas.Bool.Decides.{nat_tests}
-use Rattle.std.proofs.lemmas.List.{length-reverse, length-take, length-drop, get_or-reverse, get_or-take, get_or-drop, get_or_default}
+use Rattle.std.proofs.lemmas.List.{length-reverse, length-take, length-drop, get_or-reverse, get_or-take, get_or-drop, get_or_default, take_all, drop_all}
 use Rattle.std.proofs.lemmas.List.Sums.{suffix_len-le-length, prefix_len_passes, prefix_len_stops}
 use Rattle.std.proofs.lemmas.List.Elements.{All-cons, All-append, All-weaker, All-head, All-tail}
 use Rattle.go_core.specs.declared.entry.Entry.{Entry}
@@ -123,3 +125,19 @@ rising-inserted x xs none rising =
   where
     lt_trans : (a b c : ℕ) → a < b → b < c → a < c
     lt_trans a b c one two = omega arith
+
+-- an entry past all others is inserted behind them
+pub inserted-last : (x : Entry) (xs : List Entry) → All (λ y. y.at < x.at) xs → inserted x xs ≡ xs ++ x ∷ []
+inserted-last x xs before =
+    let k = before_later x.at xs in
+    let whole : length xs ≤ k =
+    ⊎_elim
+    (λ (less : k < length xs).
+    let low : (get_or xs k x).at < x.at = before k x less in
+    let high : x.at < (get_or (drop k xs) 0 x).at = after_later x.at xs 0 x (omega (arith, length-drop k xs)) in
+    let step : k + 0 ≡ k = omega arith in
+    let same : (get_or (drop k xs) 0 x).at ≡ (get_or xs k x).at = ap (λ (y : Entry). y.at) (get_or-drop k xs 0 x ∙ ap (λ n. get_or xs n x) step) in
+    absurd (omega arith))
+    (λ over. over) (cases_lt k (length xs))
+    in
+    ap (λ ys. ys ++ x ∷ drop k xs) (take_all k xs whole) ∙ ap (λ ys. xs ++ x ∷ ys) (drop_all k xs whole)

@@ -1,26 +1,25 @@
 -- Steps on turn words: a turn word counts the parties that have the turn.
-use Rattle.std.proofs.Common.{◌≡◌, ℕ, ◌+◌, ◌*◌, ◌<◌, ◌≤◌, ◌≢◌, Bool, true, false, List, [], ◌∷◌, ◌++◌, length, set, sym, refl, ap, arith, subst}
+use Rattle.std.proofs.Common.{◌≡◌, ℕ, ◌+◌, ◌*◌, ◌<◌, ◌≤◌, ◌≢◌, Bool, true, false, List, [], ◌∷◌, ◌++◌, length, set, refl, ap, arith}
 use Rattle.std.specs.Prelude.{All, count_by}
-use Rattle.std.proofs.lemmas.List.{length-set}
 use Rattle.std.proofs.lemmas.List.Sums.{sum_by_push, sum_by-le}
 use Rattle.std.proofs.lemmas.List.Elements.{All-weaker}
 use mathlib.Core.Option.{some}
 use lib.ListN.{get_elem?}
 use Rattle.go_word.specs.declared.edge.Edge.{Edge}
 use Rattle.go_core.specs.declared.view.View.{View}
-use Rattle.go_core.specs.Frame.{Frame, place, archived_in, durable_in, flag_in}
+use Rattle.go_core.specs.Frame.{Frame, archived_in, durable_in}
 use Rattle.go_core.specs.View.{unmoved}
-use Rattle.go_core.specs.Rule.{IsFlag, TiedBy}
+use Rattle.go_core.specs.Rule.{TiedBy}
 use Rattle.go_core.specs.Parts.{IsTurn}
 use Rattle.go_core.proofs.Totals.{bit_of, total-set, term-le, terms-le}
-use Rattle.go_core.proofs.Onward.{Onward, seated_onward}
-use Rattle.go_core.proofs.Loads.{unmoved_keeps}
-use Rattle.go_core.proofs.Claims.{word_other}
-use Rattle.go_core.proofs.Fronts.{IsMoved, ringed_moved}
+use Rattle.go_core.proofs.Onward.{works_still}
+use Rattle.go_core.proofs.Moved.{word_other, word_moved}
+use Rattle.go_core.proofs.Fronts.{front_keeps}
 
 module _ {S : Type 0} (g : S → Bool) where
   -- a count after one party has changed
-  pub count-set : (parties : List S) (i : ℕ) (s s' : S) → get_elem? parties i ≡ some s → count_by g (set parties i s') + bit_of (g s) ≡ count_by g parties + bit_of (g s')
+  pub count-set : (parties : List S) (i : ℕ) (s s' : S) → get_elem? parties i ≡ some s
+      → count_by g (set parties i s') + bit_of (g s) ≡ count_by g parties + bit_of (g s')
   count-set parties i s s' there = total-set (λ z. bit_of (g z)) parties i s s' there
 
   -- and with one party more
@@ -32,7 +31,8 @@ module _ {S : Type 0} (g : S → Bool) where
   count-has parties i s there = term-le (λ z. bit_of (g z)) parties i s there
 
   -- of two parties at most one counts, where the count is at most one
-  pub not_two : (parties : List S) (i j : ℕ) (s t : S) → j ≢ i → get_elem? parties i ≡ some s → get_elem? parties j ≡ some t → count_by g parties ≤ 1 → g s ≡ true → g t ≡ true → ⊥
+  pub not_two : (parties : List S) (i j : ℕ) (s t : S) → j ≢ i → get_elem? parties i ≡ some s → get_elem? parties j ≡ some t → count_by g parties ≤ 1
+      → g s ≡ true → g t ≡ true → ⊥
   not_two parties i j s t ne there other few mine theirs =
       let two : bit_of (g s) + bit_of (g t) ≤ count_by g parties = terms-le (λ z. bit_of (g z)) parties i j s t ne there other in
       let first : bit_of (g s) ≡ 1 = ap bit_of mine in
@@ -42,7 +42,8 @@ module _ {S : Type 0} (g : S → Bool) where
   -- nobody counts
   pub count-none : (parties : List S) → All (λ s. g s ≡ false) parties → count_by g parties ≡ 0
   count-none parties none =
-      let bound : count_by g parties ≤ length parties * 0 = sum_by-le (λ z. bit_of (g z)) 0 parties (All-weaker (λ s. g s ≡ false) (λ s. bit_of (g s) ≤ 0) (λ s is. small (g s) is) parties none) in
+      let bound : count_by g parties ≤ length parties * 0 = sum_by-le (λ z. bit_of (g z)) 0 parties
+      (All-weaker (λ s. g s ≡ false) (λ s. bit_of (g s) ≤ 0) (λ s is. small (g s) is) parties none) in
       omega arith
     where
       small : (b : Bool) → b ≡ false → bit_of b ≤ 0
@@ -59,7 +60,8 @@ module _ {S : Type 0} (has : S → Bool) where
       record { counts = omega arith; one = omega arith }
 
   -- a turn is given back by the party that has it
-  pub turn_given : (parties : List S) (i : ℕ) (s s' : S) (n : ℕ) → get_elem? parties i ≡ some s → has s ≡ true → has s' ≡ false → IsTurn has n parties → IsTurn has 0 (set parties i s')
+  pub turn_given : (parties : List S) (i : ℕ) (s s' : S) (n : ℕ) → get_elem? parties i ≡ some s → has s ≡ true → has s' ≡ false → IsTurn has n parties
+      → IsTurn has 0 (set parties i s')
   turn_given parties i s s' n there before now turn =
       let old = turn.counts in
       let few = turn.one in
@@ -69,7 +71,8 @@ module _ {S : Type 0} (has : S → Bool) where
       record { counts = omega arith; one = omega arith }
 
   -- a party changes otherwise
-  pub turn_same : (parties : List S) (i : ℕ) (s s' : S) (n : ℕ) → get_elem? parties i ≡ some s → has s' ≡ has s → IsTurn has n parties → IsTurn has n (set parties i s')
+  pub turn_same : (parties : List S) (i : ℕ) (s s' : S) (n : ℕ) → get_elem? parties i ≡ some s → has s' ≡ has s → IsTurn has n parties
+      → IsTurn has n (set parties i s')
   turn_same parties i s s' n there same turn =
       let old = turn.counts in
       let change = count-set has parties i s s' there in
@@ -100,41 +103,22 @@ module _ {S : Type 0} (has : S → Bool) where
       free true none = absurd (omega arith)
       free false none = refl
 
--- a turn word is written: no clause on words and views speaks of it
-turn_word : (f : Frame) (log : List Edge) (words : List ℕ) (views : List View) (k n : ℕ) → 4 ≤ k → k < f.base → TiedBy f log words views → TiedBy f log (set words k n) views
-turn_word f log words views k n from to tied =
-    let r = tied.ringed in
+-- a party takes or gives back a turn: no clause on words and views speaks of the word, and its view stays as it is
+pub turn_stored : (f : Frame) (log : List Edge) (words : List ℕ) (views : List View) (i : ℕ) (v : View) (k n : ℕ) → get_elem? views i ≡ some v → v.live ≡ true
+    → 4 ≤ k
+    → k < f.base → TiedBy f log words views → TiedBy f log (set words k n) (set views i (unmoved v))
+turn_stored f log words views i v k n there live from to tied =
+    let s = tied.seated i v there in
     let words' = set words k n in
     let archived : archived_in words' ≡ archived_in words = word_other words k 1 n (λ e. omega arith) in
     let durable : durable_in words' ≡ durable_in words = word_other words k 2 n (λ e. omega arith) in
-    let flag : flag_in words' ≡ flag_in words = word_other words k 3 n (λ e. omega arith) in
-    let moved : IsMoved f log words views words' =
-    record {
-      as_many = length-set words k n;
-      head = word_other words k 0 n (λ e. omega arith);
-      flag = flag;
-      slots = λ p. word_other words k (place f p) n (λ e. omega arith);
-      archived = omega arith;
-      durable = omega arith;
-      archived_written = λ p below. r.archived_written p (omega arith);
-      durable_written = λ p below. r.durable_written p (omega arith);
-    }
+    let moved = word_moved f log words views k n (omega arith) to (omega arith) (omega arith) (λ p below. tied.ringed.archived.written p (omega arith))
+    (λ p below. tied.ringed.durable.written p (omega arith))
     in
-    let on : Onward log words views log words' views =
-    record { longer = omega arith; of_log = λ p e is. is; written = λ p written. written; archived = omega arith; durable = omega arith; flag = λ raised. omega arith }
-    in
-    record {
-      ringed = ringed_moved f log words views words' tied.storable moved r;
-      seated = λ j u there. seated_onward f log words views log words' views on u (λ role. archived) (λ role. durable) (tied.seated j u there);
-      once = tied.once;
-      none_before = tied.none_before;
-      none_after = tied.none_after;
-      one_archiver = tied.one_archiver;
-      one_flusher = tied.one_flusher;
-      storable = tied.storable;
-      flag = subst (λ m. IsFlag m views) (sym flag) tied.flag;
-    }
-
--- a party takes or gives back a turn: its view stays as it is
-pub turn_stored : (f : Frame) (log : List Edge) (words : List ℕ) (views : List View) (i : ℕ) (v : View) (k n : ℕ) → get_elem? views i ≡ some v → v.live ≡ true → 4 ≤ k → k < f.base → TiedBy f log words views → TiedBy f log (set words k n) (set views i (unmoved v))
-turn_stored f log words views i v k n there live from to tied = turn_word f log words (set views i (unmoved v)) k n from to (unmoved_keeps f log words views i v there live tied)
+    front_keeps f log words views i v words' v.archived v.durable there live moved (word_other words k 3 n (λ e. omega arith))
+    (let old = s.knows in
+    let one = old.archived_to in
+    let two = old.durable_to in
+    record { head_to = old.head_to; archived_to = omega arith; durable_to = omega arith })
+    (works_still words' v (λ _. archived) (λ _. durable) s.works)
+    (λ j u ne at_j. works_still words' u (λ _. archived) (λ _. durable) (tied.seated j u at_j).works) tied

@@ -8,7 +8,7 @@ use Rattle.go_core.specs.declared.home.Parts.{Parts}
 use Rattle.go_core.specs.declared.stake.Stake.{Stake}
 use Rattle.go_core.specs.Frame.{Frame, head_in, archived_in, durable_in}
 use Rattle.go_core.specs.Pins.{owns_name}
-use Rattle.go_core.specs.Parts.{IsSuccessor, IsFileSuccessor}
+use Rattle.go_core.specs.Parts.{reach_of, IsSuccessor, IsFileSuccessor}
 use Rattle.go_core.specs.Turns.{hold_of, home_of}
 
 -- edges may be claimed: one to 64 that words can hold, with room for them in the log
@@ -27,19 +27,21 @@ pub record CanTake (words : List ℕ) (v : View) (at : ℕ) : Type 0 where
   pub role : ((v.archives ≡ true) × (archived_in words ≤ at)) ⊎ ((v.flushes ≡ true) × (durable_in words ≤ at))
   pub next : at ≤ v.taken
 
--- the archived front may be moved: by its worker, over what that took and what the shard is known to have
-pub record CanArchive (words : List ℕ) (v : View) (stake : Stake) (front : ℕ) : Type 0 where
+-- the archived front may be moved: by its worker, over what that took
+pub record CanArchive (words : List ℕ) (v : View) (front : ℕ) : Type 0 where
   pub role : v.archives ≡ true
   pub onward : archived_in words ≤ front
   pub taken : front ≤ v.taken
-  pub stood : front ≤ stake.shard.front
 
--- the durable front may be moved: by its worker, over what that took and what the file is known to have
-pub record CanFlush (words : List ℕ) (v : View) (stake : Stake) (front : ℕ) : Type 0 where
+-- the durable front may be moved: by its worker, over what that took
+pub record CanFlush (words : List ℕ) (v : View) (front : ℕ) : Type 0 where
   pub role : v.flushes ≡ true
   pub onward : durable_in words ≤ front
   pub taken : front ≤ v.taken
-  pub stood : front ≤ stake.file.front
+
+-- a party knows that a part stood at a front or above it
+abbrev pub HasStood : Bool → Stake → ℕ → Type 0
+HasStood part stake front = front ≤ (hold_of part stake).front
 
 -- a word may be read ahead of its turn: within the window that the party knows, and below the length that it knows
 pub record CanReadAhead (slots : ℕ) (v : View) (at : ℕ) : Type 0 where
@@ -58,27 +60,32 @@ pub record HasAtHome (parts : Parts) (stake : Stake) (part : ℕ) : Type 0 where
   pub turn : (hold_of (part == 0) stake).turn ≡ true
   pub at_home : (home_of (part == 0) parts).out ≡ false
 
--- a part may be given back as another
-abbrev pub IsLawful : Bool → View → Stake → PartState → PartState → Type 0
-IsLawful true v stake old new = IsSuccessor v.taken v.archived (λ id. owns_name id stake.pins stake.put) old new
-IsLawful false v stake old new = IsFileSuccessor v.taken old new
-
--- a part may be put in: by the party that took it out
-pub record CanPutIn (parts : Parts) (v : View) (stake : Stake) (part : ℕ) (state : PartState) : Type 0 where
+-- the party has taken a part out
+pub record HasOut (parts : Parts) (stake : Stake) (part : ℕ) : Type 0 where
   pub one : part < 2
   pub turn : (hold_of (part == 0) stake).turn ≡ true
   pub out : (home_of (part == 0) parts).out ≡ true
-  pub lawful : IsLawful (part == 0) v stake (home_of (part == 0) parts).part state
+
+-- a part may be given back as another
+abbrev pub IsLawful : Bool → View → Stake → PartState → PartState → Type 0
+IsLawful true v stake old new = IsSuccessor (reach_of v) v.archived (λ id. owns_name id stake.pins stake.put) old new
+IsLawful false v stake old new = IsFileSuccessor v.taken old new
 
 -- why the flag may be raised: 1 is the disk, 2 is want of memory
 abbrev pub IsCause : ℕ → Type 0
 IsCause why = (why ≡ 1) ⊎ (why ≡ 2)
 
--- another party may be joined in: a live session that owes no word and has no turn
-pub record CanJoin (other : View) (stake : Stake) : Type 0 where
+-- another party may be joined in that takes part and owes no word
+pub record CanJoin (other : View) : Type 0 where
   pub live : other.live ≡ true
+  pub pending : other.pending ≡ []
+
+-- it moves no front
+pub record IsSession (other : View) : Type 0 where
   pub archives : other.archives ≡ false
   pub flushes : other.flushes ≡ false
-  pub pending : other.pending ≡ []
-  pub no_shard : stake.shard.turn ≡ false
-  pub no_file : stake.file.turn ≡ false
+
+-- and has no turn
+pub record HasNoTurn (stake : Stake) : Type 0 where
+  pub shard : stake.shard.turn ≡ false
+  pub file : stake.file.turn ≡ false

@@ -1,9 +1,11 @@
 -- The machine without threads: its state, how it is tied to a log, and each act's row.
-use Rattle.std.specs.Prelude.{◌≡◌, ◌≢◌, ◌⊎◌, ℕ, ◌+◌, ◌-◌, ◌^◌, ◌<◌, ◌≤◌, ◌==◌, max, Bool, true, false, slice_index, if◌then◌else◌, List, [], ◌∷◌, ◌++◌, map, length, set, slice_index_or, All, find, Option, Some, None}
+use Rattle.std.specs.Prelude.{◌≡◌, ◌≢◌, ◌⊎◌, ℕ, ◌+◌, ◌-◌, ◌^◌, ◌<◌, ◌≤◌, ◌==◌, max, Bool, true, false, slice_index, if◌then◌else◌, List, [], ◌∷◌, ◌++◌, map}
+use Rattle.std.specs.Prelude.{length, set, slice_index_or, All, find, Option, Some, None}
 use Rattle.go_word.specs.declared.edge.Edge.{Edge}
 use Rattle.go_word.specs.Word.{IsStorable, word, is_matched}
 use Rattle.go_core.specs.declared.act.Act.{Act}
-use Rattle.go_core.specs.declared.act.Act.TheVariants.{Claim, LoadHead, LoadArchived, LoadDurable, StoreWord, LoadOrdered, LoadTentative, StoreArchived, StoreDurable, TakeTurn, PartOut, PartIn, GiveTurn, LoadFlag, StoreFlag, Split, Join}
+use Rattle.go_core.specs.declared.act.Act.TheVariants.{Claim, LoadHead, LoadArchived, LoadDurable, StoreWord, LoadOrdered, LoadTentative, StoreArchived}
+use Rattle.go_core.specs.declared.act.Act.TheVariants.{StoreDurable, TakeTurn, PartOut, PartIn, GiveTurn, LoadFlag, StoreFlag, Split, Join}
 use Rattle.go_core.specs.declared.act.Out.{Out}
 use Rattle.go_core.specs.declared.act.Out.TheVariants.{Number, Word, Done, Refused}
 use Rattle.go_core.specs.declared.entry.Entry.{Entry}
@@ -14,11 +16,13 @@ use Rattle.go_core.specs.declared.part.PartState.{PartState}
 use Rattle.go_core.specs.declared.stake.Stake.{Stake}
 use Rattle.go_core.specs.declared.party.Party.{Party}
 use Rattle.go_core.specs.Frame.{Frame, place, slot, head_in, archived_in, durable_in, flag_in}
-use Rattle.go_core.specs.View.{stands_at, spent, unmoved, claimed, knowing_head, knowing_archived, knowing_durable, stored, took, read_ahead, archiving, flushing, raising, split_off, joining}
+use Rattle.go_core.specs.View.{stands_at, spent, unmoved, claimed, knowing_head, knowing_archived, knowing_durable, stored, took, read_ahead, archiving}
+use Rattle.go_core.specs.View.{flushing, raising, split_off, joining}
 use Rattle.go_core.specs.Rule.{TiedBy}
 use Rattle.go_core.specs.Parts.{Reaches, ArePartsOf, IsTurn, ArePinned}
 use Rattle.go_core.specs.Turns.{hold_of, home_of, with_home, turn_place, having_turn, putting, giving}
-use Rattle.go_core.specs.Acts.{CanClaim, HasRoom, CanTake, CanReadAhead, CanArchive, CanFlush, CanTakeTurn, HasAtHome, CanPutIn, IsCause, CanJoin}
+use Rattle.go_core.specs.Acts.{CanClaim, HasRoom, CanTake, CanReadAhead, CanArchive, CanFlush, HasStood, CanTakeTurn, HasAtHome, HasOut, IsLawful, IsCause}
+use Rattle.go_core.specs.Acts.{CanJoin, IsSession, HasNoTurn}
 
 -- the words, the parties and the two parts, within a frame
 pub record Machine : Type 0 where
@@ -121,7 +125,8 @@ Does condition answer after before out now = (condition × (out ≡ answer) × (
 abbrev pub Stores : Machine → ℕ → ℕ → Option Entry → Out → Machine → Type 0
 Stores m i at None out now = (out ≡ Refused) × (now ≡ m)
 Stores m i at (Some x) out now =
-    Does (((party_at m i).view.live ≡ true) × HasRoom m.frame (party_at m i).view at) Done (with_word (place m.frame at) (word m.frame.slots at x.edge) (with_view i (stored x (party_at m i).view) m)) m out now
+    Does (((party_at m i).view.live ≡ true) × HasRoom m.frame (party_at m i).view at) Done
+    (with_word (place m.frame at) (word m.frame.slots at x.edge) (with_view i (stored x (party_at m i).view) m)) m out now
 
 -- the row of an act: when it is done, what it is answered and what it makes of the machine
 abbrev pub Row : Machine → ℕ → Act → Out → Machine → Type 0
@@ -149,27 +154,33 @@ Row m i (LoadTentative at) out now =
     Does ((v.live ≡ true) × CanReadAhead m.frame.slots v at) (Word x) (with_view i (read_ahead at x v) m) m out now
 Row m i (StoreArchived front) out now =
     let v = (party_at m i).view in
-    Does ((v.live ≡ true) × CanArchive m.words v (party_at m i).stake front) Done (with_word 1 front (with_view i (archiving front v) m)) m out now
+    Does ((v.live ≡ true) × CanArchive m.words v front × HasStood true (party_at m i).stake front) Done
+    (with_word 1 front (with_view i (archiving front v) m)) m out now
 Row m i (StoreDurable front) out now =
     let v = (party_at m i).view in
-    Does ((v.live ≡ true) × CanFlush m.words v (party_at m i).stake front) Done (with_word 2 front (with_view i (flushing front v) m)) m out now
+    Does ((v.live ≡ true) × CanFlush m.words v front × HasStood false (party_at m i).stake front) Done
+    (with_word 2 front (with_view i (flushing front v) m)) m out now
 Row m i (TakeTurn part) out now =
     let p = party_at m i in
     let b = part == 0 in
     let turn = turn_in b m.words in
-    Does ((p.view.live ≡ true) × CanTakeTurn m.parts p.stake part) (Number turn) (if turn == 0 then with_word (turn_place b) 1 (with_stake i (having_turn b p.stake) m) else with_view i (unmoved p.view) m) m out now
+    Does ((p.view.live ≡ true) × CanTakeTurn m.parts p.stake part) (Number turn)
+    (if turn == 0 then with_word (turn_place b) 1 (with_stake i (having_turn b p.stake) m) else with_view i (unmoved p.view) m) m out now
 Row m i (PartOut part) out now =
     let p = party_at m i in
     let b = part == 0 in
-    Does ((p.view.live ≡ true) × HasAtHome m.parts p.stake part) Done (with_part b (record { part = (home_of b m.parts).part; out = true }) (with_view i (unmoved p.view) m)) m out now
+    Does ((p.view.live ≡ true) × HasAtHome m.parts p.stake part) Done
+    (with_part b (record { part = (home_of b m.parts).part; out = true }) (with_view i (unmoved p.view) m)) m out now
 Row m i (PartIn part state) out now =
     let p = party_at m i in
     let b = part == 0 in
-    Does ((p.view.live ≡ true) × CanPutIn m.parts p.view p.stake part state) Done (with_part b (record { part = state; out = false }) (with_stake i (putting b (home_of b m.parts).part.pins state.pins p.stake) m)) m out now
+    Does ((p.view.live ≡ true) × HasOut m.parts p.stake part × IsLawful b p.view p.stake (home_of b m.parts).part state) Done
+    (with_part b (record { part = state; out = false }) (with_stake i (putting b (home_of b m.parts).part.pins state.pins p.stake) m)) m out now
 Row m i (GiveTurn part) out now =
     let p = party_at m i in
     let b = part == 0 in
-    Does ((p.view.live ≡ true) × HasAtHome m.parts p.stake part) Done (with_word (turn_place b) 0 (with_stake i (giving b (home_of b m.parts).part p.stake) m)) m out now
+    Does ((p.view.live ≡ true) × HasAtHome m.parts p.stake part) Done
+    (with_word (turn_place b) 0 (with_stake i (giving b (home_of b m.parts).part p.stake) m)) m out now
 Row m i LoadFlag out now =
     let v = (party_at m i).view in
     Does (v.live ≡ true) (Number (flag_in m.words)) (with_view i (unmoved v) m) m out now
@@ -179,12 +190,14 @@ Row m i (StoreFlag why) out now =
 Row m i Split out now =
     let v = (party_at m i).view in
     let new : Party = record { view = split_off v; stake = stake_off (party_at m i).stake } in
-    Does ((v.live ≡ true) × (length m.parties < 2 ^ 32 - 1)) (Number (length m.parties)) (record m { parties = (with_view i (unmoved v) m).parties ++ new ∷ [] }) m out now
+    Does ((v.live ≡ true) × (length m.parties < 2 ^ 32 - 1)) (Number (length m.parties))
+    (record m { parties = (with_view i (unmoved v) m).parties ++ new ∷ [] }) m out now
 Row m i (Join j) out now =
     let p = party_at m i in
     let other = party_at m j in
     let both : Party = record { view = joining p.view other.view; stake = stakes_joined p.stake other.stake } in
-    Does ((p.view.live ≡ true) × (j ≢ i) × CanJoin other.view other.stake) Done (record m { parties = set (set m.parties i both) j absent }) m out now
+    Does ((p.view.live ≡ true) × (j ≢ i) × CanJoin other.view × IsSession other.view × HasNoTurn other.stake) Done
+    (record m { parties = set (set m.parties i both) j absent }) m out now
 
 -- the entries by which an act makes the log longer
 abbrev pub claims : Act → Out → List Edge

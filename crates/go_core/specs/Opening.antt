@@ -7,9 +7,11 @@ use Rattle.go_core.specs.declared.view.View.{View}
 use Rattle.go_core.specs.declared.party.Party.{Party}
 use Rattle.go_core.specs.declared.home.Home.{Home}
 use Rattle.go_core.specs.declared.home.Parts.{Parts}
+use Rattle.go_core.specs.View.{spent}
 use Rattle.go_core.specs.Frame.{Frame, slot, head_in, archived_in, durable_in, flag_in}
 
--- the words at the beginning: the log and both fronts end at the first position, no flag is raised, no turn is taken, and each slot waits for the position that it serves
+-- the words at the beginning: the log and both fronts end at the first position, no flag is raised, no turn is taken, and each slot
+-- waits for the position that it serves
 pub record AreOpening (f : Frame) (words : List ℕ) : Type 0 where
   pub all_words : length words ≡ f.base + f.slots
   pub head : head_in words ≡ f.first
@@ -19,27 +21,13 @@ pub record AreOpening (f : Frame) (words : List ℕ) : Type 0 where
   pub turns : (k : ℕ) → 4 ≤ k → k < f.base → slice_index words k ≡ 0
   pub blanks : (p : ℕ) → f.first ≤ p → p < f.first + f.slots → slot f words p ≡ blank_word f.slots p
 
+-- a view that has seen, taken and knows just so many entries
+abbrev pub knowing_all : ℕ → View → View
+knowing_all n v = record v { seen = n; taken = n; head = n; archived = n; durable = n; marked = n }
+
 -- the view of a party at the beginning
 abbrev pub opening_view : ℕ → Bool → Bool → View
-opening_view first archives flushes = record {
-  live = true;
-  archives = archives;
-  flushes = flushes;
-  seen = first;
-  taken = first;
-  head = first;
-  archived = first;
-  durable = first;
-  disk_raised = false;
-  memory_raised = false;
-  pending = [];
-  abandoned = [];
-  own = [];
-  joined = [];
-  loads = [];
-  marked = first;
-  fresh = false;
-}
+opening_view first archives flushes = record (knowing_all first spent) { live = true; archives = archives; flushes = flushes }
 
 -- a role moves the archived front
 abbrev pub archives_as : Role → Bool

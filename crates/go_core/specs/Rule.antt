@@ -1,5 +1,5 @@
 -- The rule: what ties the words of a ring and the views of its parties to one log.
-use Rattle.std.specs.Prelude.{◌≡◌, ◌⊎◌, ℕ, ◌+◌, ◌<◌, ◌≤◌, true, false, List, length, count_by, sum_by, All, AllPairs}
+use Rattle.std.specs.Prelude.{◌≡◌, ◌⊎◌, ℕ, ◌+◌, ◌<◌, ◌≤◌, Bool, true, false, List, length, count_by, sum_by, All, AllPairs}
 use mathlib.Core.Option.{some}
 use lib.ListN.{get_elem?}
 use Rattle.go_word.specs.declared.edge.Edge.{Edge}
@@ -32,48 +32,88 @@ pub record AreOwn (log : List Edge) (views : List View) (xs : List Entry) : Type
 -- a word that was read ahead is the log's, or it wasn't there yet and its position hadn't been seen
 abbrev pub Tells : Frame → List Edge → List View → ℕ → Load → Type 0
 Tells f log views marked l =
-    ((e : Edge) × (get_elem? log l.at ≡ some e) × (l.word ≡ word f.slots l.at e) × IsWritten log views l.at) ⊎ ((is_matched f.slots l.at l.word ≡ false) × (marked ≤ l.at))
+    ((e : Edge) × (get_elem? log l.at ≡ some e) × (l.word ≡ word f.slots l.at e) × IsWritten log views l.at)
+    ⊎ ((is_matched f.slots l.at l.word ≡ false) × (marked ≤ l.at))
 
 -- a word that was read ahead tells that, unless its slot may have served the next lap
 abbrev pub IsSound : Frame → List Edge → List ℕ → List View → ℕ → Load → Type 0
 IsSound f log words views marked l = ((l.sure ≡ false) × (l.at < released words)) ⊎ Tells f log views marked l
 
--- the clauses on the fronts, on what isn't written and on the slots
-pub record Ringed (f : Frame) (log : List Edge) (words : List ℕ) (views : List View) : Type 0 where
+-- how many words there are, and that the first of them is the log's length
+pub record AreWords (f : Frame) (log : List Edge) (words : List ℕ) : Type 0 where
   pub some_slots : 0 < f.slots
   pub four_words : 4 ≤ f.base
   pub all_words : length words ≡ f.base + f.slots
   pub head : head_in words ≡ length log
-  pub archived_from : f.first ≤ archived_in words
-  pub durable_from : f.first ≤ durable_in words
-  pub archived_to : archived_in words ≤ length log
-  pub durable_to : durable_in words ≤ length log
-  pub archived_written : (p : ℕ) → p < archived_in words → IsWritten log views p
-  pub durable_written : (p : ℕ) → p < durable_in words → IsWritten log views p
-  pub beyond : (p : ℕ) → released words + f.slots ≤ p → p < length log → 0 < owed views p
-  pub holds : (p : ℕ) (e : Edge) → released words ≤ p → p < released words + f.slots → IsWritten log views p → get_elem? log p ≡ some e → slot f words p ≡ word f.slots p e
-  pub waits : (p : ℕ) → released words ≤ p → p < released words + f.slots → (IsWritten log views p → ⊥) → is_matched f.slots p (slot f words p) ≡ false
 
--- what the rule says of one view
+-- a front lies between the first position and the log's end, and each position below it is written
+pub record IsFront (first : ℕ) (log : List Edge) (views : List View) (front : ℕ) : Type 0 where
+  pub from : first ≤ front
+  pub to : front ≤ length log
+  pub written : (p : ℕ) → p < front → IsWritten log views p
+
+-- the clauses on the fronts, on what isn't written and on the slots
+pub record Ringed (f : Frame) (log : List Edge) (words : List ℕ) (views : List View) : Type 0 where
+  pub shape : AreWords f log words
+  pub archived : IsFront f.first log views (archived_in words)
+  pub durable : IsFront f.first log views (durable_in words)
+  pub beyond : (p : ℕ) → released words + f.slots ≤ p → p < length log → 0 < owed views p
+  pub holds : (p : ℕ) (e : Edge) → released words ≤ p → p < released words + f.slots → IsWritten log views p → get_elem? log p ≡ some e
+      → slot f words p ≡ word f.slots p e
+  pub waits : (p : ℕ) → released words ≤ p → p < released words + f.slots → (IsWritten log views p → ⊥)
+      → is_matched f.slots p (slot f words p) ≡ false
+
+-- what a live view has taken goes on from the first position, and a view has seen what it has taken
+pub record Takes (first : ℕ) (live : Bool) (seen taken : ℕ) : Type 0 where
+  pub from : live ≡ true → first ≤ taken
+  pub to : taken ≤ seen
+
+-- what a view has seen is written, and goes on from what it had seen as its present copy began
+pub record Sees (log : List Edge) (views : List View) (seen marked : ℕ) : Type 0 where
+  pub marked_to : marked ≤ seen
+  pub written : (p : ℕ) → p < seen → IsWritten log views p
+
+-- the length and the fronts that a view knows are at most the present ones
+pub record Knows (log : List Edge) (words : List ℕ) (head archived durable : ℕ) : Type 0 where
+  pub head_to : head ≤ length log
+  pub archived_to : archived ≤ archived_in words
+  pub durable_to : durable ≤ durable_in words
+
+-- who moves a front knows it as it stands, and has taken what lies before it
+pub record Moves (front : ℕ) (role : Bool) (known taken : ℕ) : Type 0 where
+  pub knows : role ≡ true → known ≡ front
+  pub took : role ≡ true → front ≤ taken
+
+-- by whether a view moves the one front and the other
+pub record Works (words : List ℕ) (archives flushes : Bool) (archived durable taken : ℕ) : Type 0 where
+  pub archiver : Moves (archived_in words) archives archived taken
+  pub flusher : Moves (durable_in words) flushes durable taken
+
+-- what a view owes is the log's, and it gave entries up only under a raised flag
+pub record Owes (log : List Edge) (flag : ℕ) (pending abandoned : List Entry) : Type 0 where
+  pub pending_of : All (IsOf log) pending
+  pub abandoned_of : All (IsOf log) abandoned
+  pub flagged : 0 < length abandoned → 0 < flag
+
+-- a view's own entries, and those of each party that was joined into it
+pub record Owns (log : List Edge) (views : List View) (entries : List Entry) (lists : List (List Entry)) : Type 0 where
+  pub own : AreOwn log views entries
+  pub joined : All (AreOwn log views) lists
+
+-- the words of a copy are sound by the seen length that was noted as it began
+abbrev pub Reads : Frame → List Edge → List ℕ → List View → ℕ → List Load → Type 0
+Reads f log words views marked loads = All (IsSound f log words views marked) loads
+
+-- what the rule says of one view, in groups over the fields that they speak of
 pub record Seated (f : Frame) (log : List Edge) (words : List ℕ) (views : List View) (v : View) : Type 0 where
-  pub spent_else : v.live ≡ false → v ≡ spent
-  pub taken_from : v.live ≡ true → f.first ≤ v.taken
-  pub taken_to : v.taken ≤ v.seen
-  pub marked_to : v.marked ≤ v.seen
-  pub seen_written : (p : ℕ) → p < v.seen → IsWritten log views p
-  pub head_to : v.head ≤ length log
-  pub archived_to : v.archived ≤ archived_in words
-  pub durable_to : v.durable ≤ durable_in words
-  pub archiver_knows : v.archives ≡ true → v.archived ≡ archived_in words
-  pub archiver_took : v.archives ≡ true → archived_in words ≤ v.taken
-  pub flusher_knows : v.flushes ≡ true → v.durable ≡ durable_in words
-  pub flusher_took : v.flushes ≡ true → durable_in words ≤ v.taken
-  pub pending_of : All (IsOf log) v.pending
-  pub abandoned_of : All (IsOf log) v.abandoned
-  pub flagged : 0 < length v.abandoned → 0 < flag_in words
-  pub own : AreOwn log views v.own
-  pub joined : All (AreOwn log views) v.joined
-  pub loads : All (IsSound f log words views v.marked) v.loads
+  pub ended : v.live ≡ false → v ≡ spent
+  pub takes : Takes f.first v.live v.seen v.taken
+  pub sees : Sees log views v.seen v.marked
+  pub knows : Knows log words v.head v.archived v.durable
+  pub works : Works words v.archives v.flushes v.archived v.durable v.taken
+  pub owes : Owes log (flag_in words) v.pending v.abandoned
+  pub owns : Owns log views v.own v.joined
+  pub reads : Reads f log words views v.marked v.loads
 
 -- the flag is a cause that a view raised, and none where none did
 pub record IsFlag (flag : ℕ) (views : List View) : Type 0 where
@@ -83,13 +123,17 @@ pub record IsFlag (flag : ℕ) (views : List View) : Type 0 where
   pub disk : flag ≡ 1 → 0 < count_by (λ v. v.disk_raised) views
   pub memory : flag ≡ 2 → 0 < count_by (λ v. v.memory_raised) views
 
+-- each position of the log from the first on stands once, in one view alone, and no other position does
+pub record StandOnce (first : ℕ) (log : List Edge) (views : List View) : Type 0 where
+  pub once : (p : ℕ) → first ≤ p → p < length log → sum_by (stands p) views ≡ 1
+  pub before : (p : ℕ) → p < first → sum_by (stands p) views ≡ 0
+  pub after : (p : ℕ) → length log ≤ p → sum_by (stands p) views ≡ 0
+
 -- the words and the views are tied to a log
 pub record TiedBy (f : Frame) (log : List Edge) (words : List ℕ) (views : List View) : Type 0 where
   pub ringed : Ringed f log words views
   pub seated : (i : ℕ) (v : View) → get_elem? views i ≡ some v → Seated f log words views v
-  pub once : (p : ℕ) → f.first ≤ p → p < length log → sum_by (stands p) views ≡ 1
-  pub none_before : (p : ℕ) → p < f.first → sum_by (stands p) views ≡ 0
-  pub none_after : (p : ℕ) → length log ≤ p → sum_by (stands p) views ≡ 0
+  pub stand : StandOnce f.first log views
   pub one_archiver : count_by (λ v. v.archives) views ≤ 1
   pub one_flusher : count_by (λ v. v.flushes) views ≤ 1
   pub storable : (p : ℕ) (e : Edge) → f.first ≤ p → get_elem? log p ≡ some e → IsStorable e

@@ -1,12 +1,12 @@
 -- Turns: what a party knows and holds of each part, and what the steps on the parts make of that. `true` is the shard.
-use Rattle.std.specs.Prelude.{ℕ, ◌||◌, not, Bool, true, false, List, [], filter}
-use Rattle.go_core.specs.declared.pin.Pin.{Pin}
+use Rattle.std.specs.Prelude.{ℕ, Bool, true, false, List, [], filter}
+use Rattle.go_word.specs.declared.pin.Pin.{Pin}
 use Rattle.go_core.specs.declared.part.PartState.{PartState}
 use Rattle.go_core.specs.declared.home.Home.{Home}
 use Rattle.go_core.specs.declared.home.Parts.{Parts}
 use Rattle.go_core.specs.declared.stake.Hold.{Hold}
 use Rattle.go_core.specs.declared.stake.Stake.{Stake}
-use Rattle.go_core.specs.Pins.{has_name, owns_name}
+use Rattle.go_core.specs.Pins.{owns_name, is_own_or_new}
 
 -- what a party knows of a part
 abbrev pub hold_of : Bool → Stake → Hold
@@ -35,7 +35,7 @@ having_turn false s = record s { file = record { front = s.file.front; turn = tr
 
 -- a pin that is put in is the party's where it owned it, or where it is new
 abbrev pub is_mine : Stake → List Pin → Pin → Bool
-is_mine s old pin = owns_name pin.id s.pins s.put || not (has_name pin.id old)
+is_mine s old pin = is_own_or_new s.pins s.put old pin
 
 -- after a part was put in, whose pins were `old` and are `new`
 abbrev pub putting : Bool → List Pin → List Pin → Stake → Stake

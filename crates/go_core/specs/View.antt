@@ -1,5 +1,6 @@
 -- What a view counts at a position, and what each act makes of it.
-use Rattle.std.specs.Prelude.{ℕ, ◌+◌, ◌-◌, max, ◌==◌, nat_le, nat_lt, ◌||◌, Bool, true, false, if◌then◌else◌, List, [], ◌∷◌, ◌++◌, map, length, take, drop, count_by, sum_by}
+use Rattle.std.specs.Prelude.{ℕ, ◌+◌, ◌-◌, max, ◌==◌, nat_le, nat_lt, ◌||◌, ◌&&◌, not, Bool, true, false, if◌then◌else◌, List, [], ◌∷◌, ◌++◌, map, length}
+use Rattle.std.specs.Prelude.{take, drop, count_by, sum_by}
 use Rattle.std.specs.List.{suffix_len}
 use Rattle.go_word.specs.declared.edge.Edge.{Edge}
 use Rattle.go_core.specs.declared.entry.Entry.{Entry}
@@ -113,6 +114,10 @@ flushing front v = record v { durable = front; fresh = false }
 abbrev pub knowing_durable : ℕ → View → View
 knowing_durable front v = record v { durable = front; seen = max v.seen front; loads = map (assured front) v.loads; fresh = false }
 
+-- after a copy's load of the durable front, by which what was copied up to an end is seen
+abbrev pub ending : ℕ → ℕ → View → View
+ending front end v = record (knowing_durable front v) { seen = max (max v.seen front) end }
+
 -- after a word was read ahead of its turn
 abbrev pub read_ahead : ℕ → ℕ → View → View
 read_ahead p word v = record v { loads = v.loads ++ record { at = p; word = word; sure = false } ∷ []; fresh = false }
@@ -140,6 +145,14 @@ split_off v =
       loads = [];
       fresh = false;
     }
+
+-- after a split by which who moves both fronts gives the durable one away
+abbrev pub sharing_out : View → View
+sharing_out v = record v { flushes = v.flushes && not v.archives; fresh = false }
+
+-- what its new party has
+abbrev pub shared_off : View → View
+shared_off v = record (split_off v) { flushes = v.flushes && v.archives }
 
 -- after another party was joined in, whose entries stay lists of their own
 abbrev pub joining : View → View → View

@@ -7,6 +7,7 @@ ghost use Rattle.go_core.specs.Machine.{Row, machine_of, IsLiveAt};
 use crate::act::Out;
 use crate::conditions;
 use crate::party::Party;
+use crate::words::FLAG;
 
 // A load of the flag.
 pub(crate) fn load_flag(words: &[u64], parties: &mut Vec<Party>, i: usize) -> Out
@@ -14,7 +15,7 @@ pub(crate) fn load_flag(words: &[u64], parties: &mut Vec<Party>, i: usize) -> Ou
     requires live { IsLiveAt parties.old.items i }
     ensures { (slots first : ℕ) (parts : Parts) → Row (machine_of slots first words.now parties.old.items parts) i LoadFlag result (machine_of slots first words.now parties.new.items parts) }
 {
-    let flag = words[3];
+    let flag = words[FLAG];
     let party = &mut parties[i];
     party.view.stay();
     Out::Number { value: flag }
@@ -31,6 +32,6 @@ pub(crate) fn store_flag(words: &mut Vec<u64>, parties: &mut Vec<Party>, i: usiz
     }
     let party = &mut parties[i];
     party.view.raise(why);
-    words[3] = why;
+    words[FLAG] = why;
     Out::Done
 }

@@ -1,7 +1,7 @@
 // Whether a party may do an act.
 ghost use Rattle.std.specs.Prelude.{◌≡◌, ◌↔◌, ◌<◌, ◌≤◌, IsTrue, length, All, slice_index_or, true};
 ghost use Rattle.go_word.specs.Word.{IsStorable};
-ghost use Rattle.go_core.specs.Acts.{CanClaim, CanTake, CanReadAhead, CanArchive, CanFlush, CanTakeTurn, HasAtHome, IsLawful, CanPutIn, IsCause, CanJoin};
+ghost use Rattle.go_core.specs.Acts.{CanClaim, CanTake, CanReadAhead, CanArchive, CanFlush, HasStood, CanTakeTurn, HasAtHome, HasOut, IsLawful, IsCause, CanJoin, IsSession, HasNoTurn};
 ghost use Rattle.go_core.specs.Machine.{absent};
 
 use crate::home::Parts;
@@ -10,6 +10,7 @@ use crate::party::Party;
 use crate::stake::Stake;
 use crate::successor;
 use crate::view::View;
+use crate::words::{ARCHIVED, DURABLE, HEAD};
 use go_word::{Edge, ID_LIMIT};
 
 // The most positions that a log has.
@@ -53,8 +54,8 @@ pub(crate) fn can_claim(words: &[u64], edges: &[Edge]) -> bool
     let count = edges.len();
     1 <= count
         && count <= CLAIMED
-        && words[0] <= POSITIONS
-        && words[0] + count as u64 <= POSITIONS
+        && words[HEAD] <= POSITIONS
+        && words[HEAD] + count as u64 <= POSITIONS
         && are_storable(edges)
 }
 
@@ -63,25 +64,32 @@ pub(crate) fn can_take(words: &[u64], view: &View, at: u64) -> bool
     requires { 4 ≤ length words.now }
     ensures { IsTrue result ↔ CanTake words.now view.now at }
 {
-    let archives = view.archives && words[1] <= at;
-    let flushes = view.flushes && words[2] <= at;
+    let archives = view.archives && words[ARCHIVED] <= at;
+    let flushes = view.flushes && words[DURABLE] <= at;
     (archives || flushes) && at <= view.taken
 }
 
 // Whether the archived front may be moved.
-pub(crate) fn can_archive(words: &[u64], view: &View, stake: &Stake, front: u64) -> bool
+pub(crate) fn can_archive(words: &[u64], view: &View, front: u64) -> bool
     requires { 4 ≤ length words.now }
-    ensures { IsTrue result ↔ CanArchive words.now view.now stake.now front }
+    ensures { IsTrue result ↔ CanArchive words.now view.now front }
 {
-    view.archives && words[1] <= front && front <= view.taken && front <= stake.shard.front
+    view.archives && words[ARCHIVED] <= front && front <= view.taken
 }
 
 // Whether the durable front may be moved.
-pub(crate) fn can_flush(words: &[u64], view: &View, stake: &Stake, front: u64) -> bool
+pub(crate) fn can_flush(words: &[u64], view: &View, front: u64) -> bool
     requires { 4 ≤ length words.now }
-    ensures { IsTrue result ↔ CanFlush words.now view.now stake.now front }
+    ensures { IsTrue result ↔ CanFlush words.now view.now front }
 {
-    view.flushes && words[2] <= front && front <= view.taken && front <= stake.file.front
+    view.flushes && words[DURABLE] <= front && front <= view.taken
+}
+
+// Whether a part is known to have stood at a front or above it.
+pub(crate) fn has_stood(shard: bool, stake: &Stake, front: u64) -> bool
+    ensures { IsTrue result ↔ HasStood shard stake.now front }
+{
+    front <= stake.hold(shard).front
 }
 
 // Whether a party may read the word of a position ahead of its turn.
@@ -109,7 +117,7 @@ pub(crate) fn has_at_home(parts: &Parts, stake: &Stake, part: u32) -> bool
 }
 
 // Whether a part may be given back as another.
-fn is_lawful(shard: bool, party: &Party, old: &PartState, new: &PartState) -> bool
+pub(crate) fn is_lawful(shard: bool, party: &Party, old: &PartState, new: &PartState) -> bool
     ensures { IsTrue result ↔ IsLawful shard party.now.view party.now.stake old.now new.now }
 {
     if shard {
@@ -119,16 +127,12 @@ fn is_lawful(shard: bool, party: &Party, old: &PartState, new: &PartState) -> bo
     }
 }
 
-// Whether a part may be put in.
-pub(crate) fn can_put_in(parts: &Parts, party: &Party, part: u32, state: &PartState) -> bool
-    ensures { IsTrue result ↔ CanPutIn parts.now party.now.view party.now.stake part state.now }
+// Whether a party has taken a part out.
+pub(crate) fn has_out(parts: &Parts, stake: &Stake, part: u32) -> bool
+    ensures { IsTrue result ↔ HasOut parts.now stake.now part }
 {
     let shard = part == 0;
-    let home = parts.home(shard);
-    part < 2
-        && party.stake.hold(shard).turn
-        && home.out
-        && is_lawful(shard, party, &home.part, state)
+    part < 2 && stake.hold(shard).turn && parts.home(shard).out
 }
 
 // Whether the flag may be raised for this.
@@ -138,11 +142,23 @@ pub(crate) fn is_cause(why: u64) -> bool
     why == 1 || why == 2
 }
 
-// Whether a party may be joined into another.
-pub(crate) fn can_join(other: &Party) -> bool
-    ensures { IsTrue result ↔ CanJoin other.now.view other.now.stake }
+// Whether a party takes part and owes no word.
+pub(crate) fn can_join(view: &View) -> bool
+    ensures { IsTrue result ↔ CanJoin view.now }
 {
-    let view = &other.view;
-    let turns = other.stake.shard.turn || other.stake.file.turn;
-    view.live && !view.archives && !view.flushes && view.pending.is_empty() && !turns
+    view.live && view.pending.is_empty()
+}
+
+// Whether it moves no front.
+pub(crate) fn is_session(view: &View) -> bool
+    ensures { IsTrue result ↔ IsSession view.now }
+{
+    !view.archives && !view.flushes
+}
+
+// Whether it has no turn.
+pub(crate) fn has_no_turn(stake: &Stake) -> bool
+    ensures { IsTrue result ↔ HasNoTurn stake.now }
+{
+    !stake.shard.turn && !stake.file.turn
 }

@@ -16,6 +16,7 @@ ghost use Rattle.go_core.specs.Machine.{Row, machine_of, IsLiveAt};
 
 use crate::act::Out;
 use crate::party::Party;
+use crate::words::DURABLE;
 use crate::{conditions, steps};
 use std::alloc::{AllocError, Global};
 
@@ -31,7 +32,7 @@ pub(crate) fn load_durable(
     ensures row { IfOk result (λ out. (slots first : ℕ) (parts : Parts) → Row (machine_of slots first words.now parties.old.items parts) i LoadDurable out (machine_of slots first words.now parties.new.items parts)) }
     ensures err { OnErr result (parties.new.items ≡ parties.old.items) }
 {
-    let front = words[2];
+    let front = words[DURABLE];
     let party = &mut parties[i];
     party.view.know_durable(alloc, front)?;
     Ok(Out::Number { value: front })

@@ -31,21 +31,27 @@ mod steps;
 mod successor;
 mod turns;
 mod view;
+mod words;
 
 pub use act::{Act, Event, Out, Role};
 pub use edges::EdgeSeq;
 pub use entry::{Entry, Load};
+pub use go_word::Pin;
 pub use home::{Home, Parts};
 pub use machine::Core;
+pub use opening::ring_words;
 pub use part::{Part, PartState};
 pub use party::Party;
-pub use pin::{Pin, Pins};
+pub use pin::Pins;
 pub use run::replay;
 pub use stake::{Hold, Stake};
 pub use view::View;
+pub use words::{ARCHIVED, DURABLE, FLAG, HEAD, TURNS};
 
 #[cfg(test)]
 mod parts_tests;
+#[cfg(test)]
+mod random_parts;
 #[cfg(test)]
 mod random_tests;
 #[cfg(test)]

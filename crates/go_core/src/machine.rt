@@ -19,6 +19,7 @@ ghost use Rattle.go_word.specs.declared.edge.Edge.{Edge};
 
 use crate::act::{Event, Out, Role};
 use crate::home::Parts;
+use crate::opening::BASE;
 use crate::party::Party;
 use crate::{opening, play};
 use std::alloc::{AllocError, Global};
@@ -68,7 +69,7 @@ impl Core {
         ensures parts { IfOk result (λ core. core.parts ≡ opening_parts first) }
         ensures tied { IfOk result (λ core. (log : List Edge) → length log ≡ first → IsTied core log) }
     {
-        let words = opening::words(alloc, n, first)?;
+        let words = opening::ring_words(alloc, BASE, n, first)?;
         let parties = opening::parties(alloc, first, roles)?;
         Ok(Core {
             alloc,

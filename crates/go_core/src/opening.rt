@@ -9,40 +9,49 @@ ghost use Rattle.std.specs.Prelude.{
   replicate,
   IfOk,
 };
-ghost use Rattle.go_core.specs.Machine.{frame_of};
 ghost use Rattle.go_core.specs.Opening.{AreOpening, opening_party};
 
 use crate::act::Role;
 use crate::party::Party;
+use crate::words::{ARCHIVED, DURABLE, HEAD, TURNS};
 use go_word::blank;
 use std::alloc::{AllocError, Global};
 
 // The words before the first slot: the four shared ones and two turns.
-const BASE: usize = 6;
+pub(crate) const BASE: usize = TURNS + 2;
 
-// Writes the words of the beginning over zeros.
-fn begin(words: &mut [u64], slots: u64, first: u64)
+// Writes the words of the beginning over zeros, by the index of the first slot.
+fn begin(words: &mut [u64], base: usize, slots: u64, first: u64)
+    requires four { 4 ≤ base }
+    requires small { base ≤ 2 ^ 48 }
     requires some { 0 < slots }
     requires few { first + slots ≤ 2 ^ 48 }
-    requires zeros { words.old ≡ replicate (6 + slots) 0 }
-    ensures { AreOpening (frame_of slots first) words.new }
+    requires zeros { words.old ≡ replicate (base + slots) 0 }
+    ensures { AreOpening (record { slots = slots; base = base; first = first }) words.new }
 {
-    words[0] = first;
-    words[1] = first;
-    words[2] = first;
+    words[HEAD] = first;
+    words[ARCHIVED] = first;
+    words[DURABLE] = first;
     for p in first..first + slots {
-        words[BASE + (p % slots) as usize] = blank(p, slots);
+        words[base + (p % slots) as usize] = blank(p, slots);
     }
 }
 
-// The words at the beginning.
-pub(crate) fn words(alloc: Global, slots: u64, first: u64) -> Result<Vec<u64>, AllocError>
+/// The words of a ring at the beginning: the four shared ones, the turns up to the index of the first slot, and the slots.
+pub fn ring_words(
+    alloc: Global,
+    base: usize,
+    slots: u64,
+    first: u64,
+) -> Result<Vec<u64>, AllocError>
+    requires four { 4 ≤ base }
+    requires small { base ≤ 2 ^ 48 }
     requires some { 0 < slots }
     requires few { first + slots ≤ 2 ^ 48 }
-    ensures { IfOk result (λ words. AreOpening (frame_of slots first) words.items) }
+    ensures { IfOk result (λ words. AreOpening (record { slots = slots; base = base; first = first }) words.items) }
 {
-    let mut words = vec![in alloc; 0; BASE + slots as usize]?;
-    begin(&mut words, slots, first);
+    let mut words = vec![in alloc; 0; base + slots as usize]?;
+    begin(&mut words, base, slots, first);
     Ok(words)
 }
 

@@ -25,8 +25,8 @@ pub trait Part {
     /// It holds what the entries of a log up to its front make, from the first position of its ring on.
     ghost stands_for: { Self → ℕ → List Edge → Type 0 };
 
-    /// The places of the ring that it fits.
-    ghost fits: { Self → ℕ → Type 0 };
+    /// The places that it fits: by the place, the number of shards and the number of vertices.
+    ghost fits: { Self → ℕ → ℕ → ℕ → Type 0 };
 
     /// The fronts that it can tell of.
     ghost keeps: { Self → ℕ → Type 0 };
@@ -60,7 +60,7 @@ impl Part for PartState {
 
     ghost stands_for = { λ s first log. Reaches s log };
 
-    ghost fits = { λ s place. place < 2 };
+    ghost fits = { λ s place shards vertices. place ≤ shards };
 
     ghost keeps = { λ s front. (s.cut ≤ front) × (front ≤ s.front) };
 

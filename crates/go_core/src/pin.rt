@@ -1,19 +1,11 @@
-// Pins: fronts that views of the graph hold on to.
+// The pins of a part: fronts that views of the graph hold on to.
 ghost use Rattle.std.specs.Prelude.{◌≡◌, [], find, count_by, IfOk};
-ghost use Rattle.go_core.specs.Pins.{is_named};
+ghost use Rattle.go_word.specs.Pins.{is_named};
 
+use go_word::Pin;
 use std::alloc::{AllocError, Global};
 use std::collections::LinkedList;
 use std::marker::Model;
-
-/// A front that a view of the graph holds on to.
-#[derive(Clone, Copy, Debug, PartialEq, Eq)]
-pub struct Pin {
-    /// The name of the pin; no two of a part have the same.
-    pub id: u64,
-    /// The front.
-    pub front: u64,
-}
 
 /// The pins of a part, a list that owns its memory.
 #[derive(Debug, Drop)]
@@ -23,7 +15,7 @@ pub struct Pins {
 
 impl Model for Pins {
     ghost use Rattle.std.specs.Prelude.{List};
-    ghost use Rattle.go_core.specs.declared.pin.Pin.{Pin};
+    ghost use Rattle.go_word.specs.declared.pin.Pin.{Pin};
 
     ghost Value = { List Pin };
 

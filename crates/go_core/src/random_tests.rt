@@ -1,6 +1,7 @@
-// Pseudo-random events of five parties over many laps, whose answers are compared with the list of what was claimed.
+// Pseudo-random events of five parties and of those that are split off, over many laps, whose answers are compared with plain notes.
+use crate::random_parts::Shelf;
 use crate::tests::{add, event};
-use crate::{Act, Core, EdgeSeq, Out, PartState, Pins, Role};
+use crate::{Act, Core, EdgeSeq, Out, Role};
 use go_word::{Edge, decode, matched};
 use std::alloc::{AllocError, Global};
 use std::test::Fail;
@@ -17,12 +18,18 @@ struct Notes {
     ahead: Vec<(u64, u64)>,
     // How far the two workers took the log.
     taken: (u64, u64),
-    // How far the two parts were put in.
-    parts: (u64, u64),
+    // The two parts as they were put in.
+    parts: Shelf,
     // How far the two fronts were stored.
     fronts: (u64, u64),
     // How many words read ahead were judged.
     judged: u64,
+    // The flag.
+    flag: u64,
+    // How many parties there are.
+    parties: u32,
+    // How many of them were joined in.
+    joined: u32,
 }
 
 impl Notes {
@@ -60,15 +67,6 @@ impl Notes {
         }
     }
 
-    // A part was put in.
-    fn put(&mut self, part: u32, front: u64) {
-        if part == 0 {
-            self.parts.0 = front;
-        } else {
-            self.parts.1 = front;
-        }
-    }
-
     // A front was read: it judges the words that were read ahead at or above it.
     fn judge(&mut self, front: u64) -> bool {
         let (right, count) = judged(&self.log, &self.ahead, front);
@@ -102,38 +100,73 @@ fn next(seed: u64) -> u64 {
         .wrapping_add(1442695040888963407)
 }
 
-// Puts a part in, as far as the party and the part are.
-fn put(alloc: Global, notes: &Notes, party: u32, part: u32) -> Act {
-    let before = if part == 0 {
-        notes.parts.0
+// Puts a part in, as far as the party may bring it.
+fn put(
+    alloc: Global,
+    number: u64,
+    notes: &Notes,
+    party: u32,
+    part: u32,
+) -> Result<Act, AllocError> {
+    let taken = if part == 0 && party != 2 {
+        0
     } else {
-        notes.parts.1
+        notes.taken(party)
     };
-    let state = PartState {
-        front: before.max(notes.taken(party)),
-        cut: 0,
-        pins: Pins::none(alloc),
-    };
-    Act::PartIn { part, state }
+    let state = notes
+        .parts
+        .state(alloc, number, part, taken, notes.fronts.0)?;
+    Ok(Act::PartIn { part, state })
 }
 
 // A step on the parts, by a number.
-fn any_turn(alloc: Global, number: u64, notes: &Notes, party: u32) -> Act {
+fn any_turn(alloc: Global, number: u64, notes: &Notes, party: u32) -> Result<Act, AllocError> {
     let part = ((number >> 8) % 2) as u32;
-    match number % 4 {
+    Ok(match number % 4 {
         0 => Act::TakeTurn { part },
         1 => Act::PartOut { part },
-        2 => put(alloc, notes, party, part),
+        2 => put(alloc, number >> 12, notes, party, part)?,
         _ => Act::GiveTurn { part },
+    })
+}
+
+// A party to be joined, by a number: one that was split off, or now and then a worker, whose seat isn't given away. The sessions of the
+// beginning go on.
+fn any_other(number: u64) -> u32 {
+    let other = (number % 40) as u32;
+    if other < 5 { 2 + other % 2 } else { other }
+}
+
+// A step that splits a party, joins one, or reads or raises the flag, by a number.
+fn any_share(number: u64, notes: &Notes) -> Act {
+    match number % 4 {
+        0 if notes.parties < 40 => Act::Split,
+        1 => Act::Join {
+            other: any_other(number >> 8),
+        },
+        2 if (number >> 8) % 64 == 0 => Act::StoreFlag {
+            why: (number >> 16) % 3,
+        },
+        _ => Act::LoadFlag,
     }
+}
+
+// One of the first eight parties mostly, else any.
+fn any_party(number: u64, notes: &Notes) -> u32 {
+    let most = if number % 8 == 0 {
+        u64::from(notes.parties)
+    } else {
+        u64::from(notes.parties.min(8))
+    };
+    ((number >> 3) % most.max(1)) as u32
 }
 
 // One of the acts, by a number.
 fn any_act(alloc: Global, number: u64, notes: &Notes, party: u32) -> Result<Act, AllocError> {
     let at = notes.released().saturating_add((number >> 16) % 24);
     let src = ((number >> 24) % 100) as u32;
-    Ok(match number % 16 {
-        0 | 1 if notes.len() <= at => Act::Claim {
+    Ok(match number % 27 {
+        0 | 1 if notes.len() <= at && party < 8 => Act::Claim {
             edges: EdgeSeq::of(alloc, &[add(src, 1), add(1, src)])?,
         },
         2 => Act::LoadHead,
@@ -143,7 +176,8 @@ fn any_act(alloc: Global, number: u64, notes: &Notes, party: u32) -> Result<Act,
         6 | 7 => Act::LoadOrdered {
             at: notes.taken(party),
         },
-        8 | 9 => any_turn(alloc, number >> 4, notes, party),
+        8 | 9 => any_share(number >> 4, notes),
+        18..27 if party < 8 => any_turn(alloc, number >> 4, notes, party)?,
         10 => Act::StoreArchived {
             front: notes.taken(party),
         },
@@ -157,11 +191,17 @@ fn any_act(alloc: Global, number: u64, notes: &Notes, party: u32) -> Result<Act,
 }
 
 // Notes an answer, and tells whether it is right.
-fn note(notes: &mut Notes, party: u32, act: &Act, out: Out) -> Result<bool, AllocError> {
+fn note(
+    alloc: Global,
+    notes: &mut Notes,
+    party: u32,
+    act: &Act,
+    out: Out,
+) -> Result<bool, AllocError> {
     match out {
         Out::Number { value } => note_number(notes, act, value),
         Out::Word { word } => note_word(notes, party, act, word),
-        Out::Done => Ok(note_done(notes, act)),
+        Out::Done => note_done(alloc, notes, party, act),
         Out::Refused => Ok(true),
     }
 }
@@ -177,6 +217,12 @@ fn note_number(notes: &mut Notes, act: &Act, value: u64) -> Result<bool, AllocEr
         Act::LoadHead => value == notes.len(),
         Act::LoadArchived => value == notes.fronts.0 && notes.judge(value),
         Act::LoadDurable => value == notes.fronts.1 && notes.judge(value),
+        Act::LoadFlag => value == notes.flag,
+        Act::Split => {
+            let right = value == u64::from(notes.parties);
+            notes.parties = notes.parties.saturating_add(1);
+            right
+        }
         _ => true,
     })
 }
@@ -199,28 +245,36 @@ fn note_word(notes: &mut Notes, party: u32, act: &Act, word: u64) -> Result<bool
 }
 
 // Notes what was done: a front goes onward, and never past what its part has.
-fn note_done(notes: &mut Notes, act: &Act) -> bool {
-    match act {
+fn note_done(alloc: Global, notes: &mut Notes, party: u32, act: &Act) -> Result<bool, AllocError> {
+    Ok(match act {
         Act::StoreArchived { front } => {
-            let right = notes.fronts.0 <= *front && *front <= notes.parts.0;
+            let right = notes.fronts.0 <= *front && *front <= notes.parts.shard;
             notes.fronts.0 = *front;
             right
         }
         Act::StoreDurable { front } => {
-            let right = notes.fronts.1 <= *front && *front <= notes.parts.1;
+            let right = notes.fronts.1 <= *front && *front <= notes.parts.file;
             notes.fronts.1 = *front;
             right
         }
         Act::PartIn { part, state } => {
-            notes.put(*part, state.front);
-            true
+            notes.parts.put(alloc, party, *part, state, notes.fronts.0)?
+        }
+        Act::StoreFlag { why } => {
+            notes.flag = *why;
+            1 <= *why && *why <= 2
+        }
+        Act::Join { other } => {
+            notes.parts.join(party, *other);
+            notes.joined = notes.joined.saturating_add(1);
+            *other != 2 && *other != 3
         }
         _ => true,
-    }
+    })
 }
 
 #[test]
-fn events_of_five_parties_stay_tied_to_the_log(rt: HostRuntime) -> Result<(), Fail> {
+fn events_of_many_parties_stay_tied_to_the_log(rt: HostRuntime) -> Result<(), Fail> {
     let alloc = rt.alloc();
     let roles = [
         Role::Session,
@@ -234,20 +288,30 @@ fn events_of_five_parties_stay_tied_to_the_log(rt: HostRuntime) -> Result<(), Fa
         log: Vec::new(alloc),
         ahead: Vec::new(alloc),
         taken: (0, 0),
-        parts: (0, 0),
+        parts: Shelf::new(alloc),
         fronts: (0, 0),
         judged: 0,
+        flag: 0,
+        parties: 5,
+        joined: 0,
     };
     let mut seed = 7;
-    for number in 0..60000 {
+    for number in 0..120000 {
         seed = next(seed);
-        let party = ((seed >> 12) % 5) as u32;
+        let party = any_party(seed >> 12, &notes);
         let step = event(party, any_act(alloc, seed >> 20, &notes, party)?);
         let out = core.step(&step)?;
-        assert!(rt; note(&mut notes, party, &step.act, out)?, "event {number}");
+        assert!(rt;
+            note(alloc, &mut notes, party, &step.act, out)?,
+            "event {number}"
+        );
     }
     let released = notes.released();
     assert!(rt; 4 * SLOTS < released, "some laps: {released}");
     assert!(rt; 0 < notes.judged, "some words were read ahead");
+    assert!(rt;
+        0 < notes.parts.pinned && 0 < notes.joined,
+        "some pins and joins"
+    );
     Ok(())
 }

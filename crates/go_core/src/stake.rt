@@ -10,7 +10,8 @@ ghost use Rattle.go_core.specs.Turns.{
 };
 
 use crate::part::PartState;
-use crate::pin::{self, Pin};
+use crate::pin;
+use go_word::Pin;
 use std::alloc::{AllocError, Global};
 use std::collections::LinkedList;
 

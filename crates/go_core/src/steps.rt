@@ -14,6 +14,8 @@ ghost use Rattle.std.specs.Prelude.{
   All,
   IfOk,
   OnErr,
+  IsTrue,
+  ◌↔◌,
 };
 ghost use Rattle.go_word.specs.Word.{IsStorable};
 ghost use Rattle.go_core.specs.declared.act.Act.TheVariants.{
@@ -28,18 +30,18 @@ ghost use Rattle.go_core.specs.declared.act.Act.TheVariants.{
   Join,
 };
 ghost use Rattle.go_core.specs.declared.home.Parts.{Parts};
+ghost use Rattle.go_core.specs.Acts.{CanJoin, IsSession, HasNoTurn};
 ghost use Rattle.go_core.specs.Machine.{Row, machine_of, absent, IsLiveAt};
 
 use crate::act::Out;
 use crate::edges::EdgeSeq;
+use crate::opening::BASE;
 use crate::party::Party;
+use crate::words::{ARCHIVED, DURABLE, HEAD};
 use crate::{conditions, lists};
 use go_word::{encode, matched};
 use std::alloc::{AllocError, Global};
 use std::mem;
-
-// The index of the first slot's word: after four words and two turns.
-const BASE: usize = 6;
 
 // There are no more parties than this.
 const PARTIES: usize = 0xFFFF_FFFF;
@@ -62,10 +64,10 @@ pub(crate) fn claim(
     if !conditions::can_claim(words, edges) {
         return Ok(Out::Refused);
     }
-    let head = words[0];
+    let head = words[HEAD];
     let party = &mut parties[i];
     party.view.claim(alloc, head, edges)?;
-    words[0] = head + edges.len() as u64;
+    words[HEAD] = head + edges.len() as u64;
     Ok(Out::Number { value: head })
 }
 
@@ -75,7 +77,7 @@ pub(crate) fn load_head(words: &[u64], parties: &mut Vec<Party>, i: usize) -> Ou
     requires live { IsLiveAt parties.old.items i }
     ensures { (slots first : ℕ) (parts : Parts) → Row (machine_of slots first words.now parties.old.items parts) i LoadHead result (machine_of slots first words.now parties.new.items parts) }
 {
-    let head = words[0];
+    let head = words[HEAD];
     let party = &mut parties[i];
     party.view.know_head(head);
     Out::Number { value: head }
@@ -93,7 +95,7 @@ pub(crate) fn load_archived(
     ensures row { IfOk result (λ out. (slots first : ℕ) (parts : Parts) → Row (machine_of slots first words.now parties.old.items parts) i LoadArchived out (machine_of slots first words.now parties.new.items parts)) }
     ensures err { OnErr result (parties.new.items ≡ parties.old.items) }
 {
-    let front = words[1];
+    let front = words[ARCHIVED];
     let party = &mut parties[i];
     party.view.know_archived(alloc, front)?;
     Ok(Out::Number { value: front })
@@ -179,11 +181,13 @@ pub(crate) fn store_archived(
     ensures { (slots first : ℕ) (parts : Parts) → Row (machine_of slots first words.old.items parties.old.items parts) i (StoreArchived front) result (machine_of slots first words.new.items parties.new.items parts) }
 {
     let party = &mut parties[i];
-    if !conditions::can_archive(words, &party.view, &party.stake, front) {
+    if !conditions::can_archive(words, &party.view, front)
+        || !conditions::has_stood(true, &party.stake, front)
+    {
         return Out::Refused;
     }
     party.view.archive(front);
-    words[1] = front;
+    words[ARCHIVED] = front;
     Out::Done
 }
 
@@ -199,11 +203,13 @@ pub(crate) fn store_durable(
     ensures { (slots first : ℕ) (parts : Parts) → Row (machine_of slots first words.old.items parties.old.items parts) i (StoreDurable front) result (machine_of slots first words.new.items parties.new.items parts) }
 {
     let party = &mut parties[i];
-    if !conditions::can_flush(words, &party.view, &party.stake, front) {
+    if !conditions::can_flush(words, &party.view, front)
+        || !conditions::has_stood(false, &party.stake, front)
+    {
         return Out::Refused;
     }
     party.view.flush(front);
-    words[2] = front;
+    words[DURABLE] = front;
     Out::Done
 }
 
@@ -226,6 +232,15 @@ pub(crate) fn split(alloc: Global, parties: &mut Vec<Party>, i: usize) -> Result
     })
 }
 
+// Whether a party may be joined into another.
+fn may_join(other: &Party) -> bool
+    ensures { IsTrue result ↔ (CanJoin other.now.view × IsSession other.now.view × HasNoTurn other.now.stake) }
+{
+    conditions::can_join(&other.view)
+        && conditions::is_session(&other.view)
+        && conditions::has_no_turn(&other.stake)
+}
+
 // A join of another party.
 pub(crate) fn join(
     alloc: Global,
@@ -237,7 +252,7 @@ pub(crate) fn join(
     ensures row { IfOk result (λ out. (slots first : ℕ) (words : List ℕ) (parts : Parts) → Row (machine_of slots first words parties.old.items parts) i (Join j) out (machine_of slots first words parties.new.items parts)) }
     ensures err { OnErr result (parties.new.items ≡ parties.old.items) }
 {
-    if j == i || !conditions::is_live(parties, j) || !conditions::can_join(&parties[j]) {
+    if j == i || !conditions::is_live(parties, j) || !may_join(&parties[j]) {
         return Ok(Out::Refused);
     }
     let mut other = mem::replace(&mut parties[j], Party::absent(alloc));

@@ -11,13 +11,15 @@ ghost use Rattle.std.specs.Prelude.{
   find,
   count_by,
 };
-ghost use Rattle.go_core.specs.Pins.{is_named, owns_name};
-ghost use Rattle.go_core.specs.Parts.{Follows, GoesOnward, KeepsPins, IsSuccessor, IsFileSuccessor};
+ghost use Rattle.go_word.specs.Pins.{is_named};
+ghost use Rattle.go_core.specs.Pins.{owns_name};
+ghost use Rattle.go_core.specs.Parts.{reach_of, AreNamed, Follows, GoesOnward, KeepsPins, IsSuccessor, IsFileSuccessor};
 
 use crate::part::PartState;
-use crate::pin::{self, Pin};
+use crate::pin;
 use crate::stake::Stake;
 use crate::view::View;
+use go_word::Pin;
 
 // Whether no pin lies below a cut.
 fn are_past(cut: u64, pins: &[Pin]) -> bool
@@ -96,10 +98,10 @@ fn all_follow(cut: u64, archived: u64, stake: &Stake, old: &[Pin], new: &[Pin]) 
 
 // Whether the front and the cut of a shard go onward, and no further than they may.
 fn goes_onward(view: &View, old: &PartState, new: &PartState) -> bool
-    ensures { IsTrue result ↔ GoesOnward view.now.taken view.now.archived old.now new.now }
+    ensures { IsTrue result ↔ GoesOnward (reach_of view.now) view.now.archived old.now new.now }
 {
     old.front <= new.front
-        && new.front <= old.front.max(view.taken)
+        && new.front <= old.front.max(view.reach())
         && old.cut <= new.cut
         && new.cut <= old.cut.max(view.archived)
 }
@@ -124,7 +126,7 @@ fn keeps_pins(view: &View, stake: &Stake, old: &PartState, new: &PartState) -> b
 
 // Whether a shard may be given back as another.
 pub(crate) fn is_successor(view: &View, stake: &Stake, old: &PartState, new: &PartState) -> bool
-    ensures { IsTrue result ↔ IsSuccessor view.now.taken view.now.archived (λ id. owns_name id stake.now.pins stake.now.put) old.now new.now }
+    ensures { IsTrue result ↔ IsSuccessor (reach_of view.now) view.now.archived (λ id. owns_name id stake.now.pins stake.now.put) old.now new.now }
 {
     goes_onward(view, old, new) && keeps_pins(view, stake, old, new)
 }

@@ -8,6 +8,9 @@ ghost use Rattle.std.specs.Prelude.{
   length,
   IfOk,
   OnErr,
+  IsTrue,
+  ◌↔◌,
+  ◌==◌,
   false,
 };
 ghost use Rattle.go_core.specs.declared.act.Act.TheVariants.{
@@ -17,7 +20,8 @@ ghost use Rattle.go_core.specs.declared.act.Act.TheVariants.{
   GiveTurn,
 };
 ghost use Rattle.go_core.specs.Machine.{Row, machine_of, IsLiveAt};
-ghost use Rattle.go_core.specs.Turns.{turn_place as place_of_turn};
+ghost use Rattle.go_core.specs.Turns.{home_of, turn_place as place_of_turn};
+ghost use Rattle.go_core.specs.Acts.{HasOut, IsLawful};
 
 use crate::act::Out;
 use crate::conditions;
@@ -25,6 +29,7 @@ use crate::home::{Home, Parts};
 use crate::part::PartState;
 use crate::party::Party;
 use crate::pin::Pins;
+use crate::words::TURNS;
 use std::alloc::{AllocError, Global};
 
 // The index of a part's turn word.
@@ -32,7 +37,7 @@ fn turn_place(shard: bool) -> usize
     ensures value { result ≡ place_of_turn shard }
     ensures within { result < 6 }
 {
-    if shard { 4 } else { 5 }
+    if shard { TURNS } else { TURNS + 1 }
 }
 
 // A turn is taken, where nobody has it.
@@ -76,6 +81,15 @@ pub(crate) fn take_out(parties: &mut Vec<Party>, parts: &mut Parts, i: usize, pa
     Out::Done
 }
 
+// Whether a part may be put in.
+fn may_put_in(parts: &Parts, party: &Party, part: u32, state: &PartState) -> bool
+    ensures { IsTrue result ↔ (HasOut parts.now party.now.stake part × IsLawful (part == 0) party.now.view party.now.stake (home_of (part == 0) parts.now).part state.now) }
+{
+    let shard = part == 0;
+    conditions::has_out(parts, &party.stake, part)
+        && conditions::is_lawful(shard, party, &parts.home(shard).part, state)
+}
+
 // A part is put in.
 pub(crate) fn put_in(
     alloc: Global,
@@ -91,10 +105,10 @@ pub(crate) fn put_in(
     ensures err_parts { OnErr result (parts.new ≡ parts.old) }
 {
     let party = &mut parties[i];
-    if !conditions::can_put_in(parts, party, part, state) {
+    let shard = part == 0;
+    if !may_put_in(parts, party, part, state) {
         return Ok(Out::Refused);
     }
-    let shard = part == 0;
     let home = home_with(alloc, state)?;
     let old = parts.home(shard).part.pins.as_slice();
     party

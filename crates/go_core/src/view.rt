@@ -1,4 +1,6 @@
 // What one party knows, and what it has still to do.
+ghost use Rattle.std.specs.Prelude.{◌≡◌};
+
 use crate::entry::{Entry, Load};
 use std::collections::LinkedList;
 
@@ -39,4 +41,15 @@ pub struct View {
     pub marked: u64,
     /// Whether its last step read the length of the log.
     pub fresh: bool,
+}
+
+impl View {
+    ghost use Rattle.go_core.specs.Parts.{reach_of};
+
+    // How far it may bring a shard on.
+    pub(crate) fn reach(&self) -> u64
+        ensures { result ≡ reach_of self.now }
+    {
+        if self.archives { self.taken } else { 0 }
+    }
 }

@@ -3,11 +3,10 @@ use Rattle.std.proofs.Common.{◌≡◌, ℕ, ◌+◌, ◌<◌, ◌≤◌, lengt
 use Rattle.std.specs.Prelude.{slice_index}
 use Rattle.go_word.specs.Word.{blank_word}
 use Rattle.go_core.specs.Frame.{slot}
-use Rattle.go_core.specs.Machine.{frame_of}
 use Rattle.go_core.proofs.opening.begin.Given as goal
 
 abbrev pub invariant-loop-p : goal.invariant-loop-p
 invariant-loop-p l =
-    ((k : ℕ) → k < 6 → slice_index l.words k ≡ slice_index l.initial.words k)
-    × ((q : ℕ) → l.first ≤ q → q < l.p → slot (frame_of l.slots l.first) l.words q ≡ blank_word l.slots q)
-    × (length l.words ≡ 6 + l.slots)
+    ((k : ℕ) → k < l.base → slice_index l.words k ≡ slice_index l.initial.words k)
+    × ((q : ℕ) → l.first ≤ q → q < l.p → slot (record { slots = l.slots; base = l.base; first = l.first }) l.words q ≡ blank_word l.slots q)
+    × (length l.words ≡ l.base + l.slots)

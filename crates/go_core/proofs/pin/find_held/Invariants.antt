@@ -1,7 +1,7 @@
 -- `find_held`: what is found in the rest is what is found at all.
 use Rattle.std.proofs.Common.{◌≡◌, length}
 use Rattle.std.specs.Prelude.{find}
-use Rattle.go_core.specs.Pins.{is_named}
+use Rattle.go_word.specs.Pins.{is_named}
 use Rattle.go_core.proofs.pin.find_held.Given as goal
 
 abbrev pub invariant-loop-pin : goal.invariant-loop-pin

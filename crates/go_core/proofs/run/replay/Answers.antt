@@ -10,17 +10,20 @@ use Rattle.go_core.proofs.Runs.{replayed_none, replayed_run, replayed_more, run_
 use Rattle.go_core.proofs.run.replay.Goals as goal
 
 -- the run so far, where a step wants memory
-run_err : (c : goal.After-from_residual-in_err-out) → Run c.args.core.now c.args.events.now (drop (vec_len c.args.outs.now) c.loop-event.outs.items) c.step.new.self
+run_err : (c : goal.After-from_residual-in_err-out)
+    → Run c.args.core.now c.args.events.now (drop (vec_len c.args.outs.now) c.loop-event.outs.items) c.step.new.self
 run_err c =
     let n = vec_len c.args.outs.now in
-    let run = replayed_run c.args.core.now c.loop-event.core c.args.events.now c.reserve.new.self.items c.loop-event.outs.items c.loop-event.event-index n (omega arith) c.loop-event.invariant.0 in
+    let run = replayed_run c.args.core.now c.loop-event.core c.args.events.now c.reserve.new.self.items c.loop-event.outs.items c.loop-event.event-index n
+    (omega arith) c.loop-event.invariant.0 in
     subst (λ (m : Machine). Run c.args.core.now c.args.events.now (drop n c.loop-event.outs.items) m) (sym c.in_err-out.ensures.err) run
 
 -- the whole run
 run_all : (c : goal.After-loop-event) → Run c.args.core.now c.args.events.now (drop (vec_len c.args.outs.now) c.loop-event.outs.items) c.loop-event.core
 run_all c =
     let n = vec_len c.args.outs.now in
-    replayed_run c.args.core.now c.loop-event.core c.args.events.now c.reserve.new.self.items c.loop-event.outs.items c.loop-event.event-index n (omega arith) c.loop-event.invariant.0
+    replayed_run c.args.core.now c.loop-event.core c.args.events.now c.reserve.new.self.items c.loop-event.outs.items c.loop-event.event-index n
+    (omega arith) c.loop-event.invariant.0
 
 pub returns-in_err-out-clause-tied : goal.returns-in_err-out-clause-tied
 returns-in_err-out-clause-tied c = λ log tied. run_tied c.args.core.now c.args.events.now _ c.step.new.self log (run_err c) tied
@@ -42,8 +45,10 @@ returns-clause-ordered c = λ log tied. run_ordered c.args.core.now c.args.event
 
 pub loop-event-preserved : goal.loop-event-preserved
 loop-event-preserved c = (
-  replayed_more c.args.core.now c.loop-event.core c.step.new.self c.args.events.now c.reserve.new.self.items c.loop-event.outs.items c.push.new.self.items c.loop-event.event-index c.event-item.result c.in_ok-out.out c.loop-event-test.true c.loop-event.invariant.0
-      (subst (λ (e : Event). Row c.loop-event.core e.party e.act c.in_ok-out.out c.step.new.self) c.event-item.is c.in_ok-out.ensures.row) c.in_ok-push.ensures.items,
+  replayed_more c.args.core.now c.loop-event.core c.step.new.self c.args.events.now c.reserve.new.self.items c.loop-event.outs.items c.push.new.self.items
+      c.loop-event.event-index c.event-item.result c.in_ok-out.out c.loop-event-test.true c.loop-event.invariant.0
+      (subst (λ (e : Event). Row c.loop-event.core e.party e.act c.in_ok-out.out c.step.new.self) c.event-item.is c.in_ok-out.ensures.row)
+      c.in_ok-push.ensures.items,
   (let grown = c.in_ok-push.ensures.len in let room = c.in_ok-push.ensures.capacity in omega arith),
 )
 
@@ -60,7 +65,8 @@ pub returns-clause-copied : goal.returns-clause-copied
 returns-clause-copied c = λ log tied. run_copied c.args.core.now c.args.events.now _ c.loop-event.core log (run_all c) tied
 
 pub returns-in_err-out-clause-sure : goal.returns-in_err-out-clause-sure
-returns-in_err-out-clause-sure c = λ log tied i. tied_sure c.step.new.self _ i (run_tied c.args.core.now c.args.events.now _ c.step.new.self log (run_err c) tied)
+returns-in_err-out-clause-sure c = λ log tied i. tied_sure c.step.new.self _ i
+    (run_tied c.args.core.now c.args.events.now _ c.step.new.self log (run_err c) tied)
 
 pub returns-clause-sure : goal.returns-clause-sure
 returns-clause-sure c = λ log tied i. tied_sure c.loop-event.core _ i (run_tied c.args.core.now c.args.events.now _ c.loop-event.core log (run_all c) tied)

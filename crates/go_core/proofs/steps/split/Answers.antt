@@ -19,6 +19,7 @@ returns-clause-row c =
       (c.requires.live.live, omega arith),
       ap Number count,
       ap (λ (zs : List Party). machine_of slots first words zs parts)
-          (split_parties ps c.push.new.self.items i p c.index.result.now new _ c.requires.live.within c.index.ensures c.split_off-new.ensures c.in_ok-push.ensures.items c.index_mut-party.ensures.value
+          (split_parties ps c.push.new.self.items i p c.index.result.now new _ c.requires.live.within c.index.ensures c.split_off-new.ensures
+          c.in_ok-push.ensures.items c.index_mut-party.ensures.value
           (ap (λ (w : View). let z : Party = record { view = w; stake = p.stake } in z) c.stay.ensures)),
     )

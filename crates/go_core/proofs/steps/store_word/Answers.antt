@@ -19,7 +19,8 @@ pub encode-requires-clause-storable : goal.encode-requires-clause-storable
 encode-requires-clause-storable c =
     let P : Entry → Type 0 = λ x. IsStorable x.edge in
     let p = c.index_mut-party.result.now in
-    let same : p ≡ get_or c.args.parties.now.items c.args.i absent = c.index_mut-party.ensures.value ∙ get_or_default c.args.parties.now.items c.args.i p absent c.requires.live.within in
+    let same : p ≡ get_or c.args.parties.now.items c.args.i absent = c.index_mut-party.ensures.value
+    ∙ get_or_default c.args.parties.now.items c.args.i p absent c.requires.live.within in
     let all : All P p.view.pending = subst (λ (q : Party). All P q.view.pending) (sym same) c.requires.storable in
     All-contains P p.view.pending c.in-Some.entry all (found_in c.args.at p.view.pending c.in-Some.entry (sym c.in-Some.ensures)).0
 

@@ -1,8 +1,8 @@
 -- `are_named`: the names so far stand once each.
 use Rattle.std.proofs.Common.{ℕ, ◌≡◌, ◌<◌}
 use Rattle.std.specs.Prelude.{count_by, slice_index_or}
-use Rattle.go_core.specs.declared.pin.Pin.{Pin}
-use Rattle.go_core.specs.Pins.{is_named}
+use Rattle.go_word.specs.declared.pin.Pin.{Pin}
+use Rattle.go_word.specs.Pins.{is_named}
 use Rattle.go_core.proofs.successor.are_named.Given as goal
 
 abbrev pub invariant-loop-pin : goal.invariant-loop-pin

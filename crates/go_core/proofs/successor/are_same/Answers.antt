@@ -7,4 +7,5 @@ use Rattle.go_core.proofs.successor.are_same.Goals as goal
 pub returns : goal.returns
 returns c =
     let xs = c.args.left.now in
-    let ys = c.args.right.now in ((λ is. same_pins xs ys (sym c.eq.ensures ∙ is)), (λ same. c.eq.ensures ∙ ap (pointwise same_pin xs) (sym same) ∙ pins_same xs))
+    let ys = c.args.right.now in
+    ((λ is. same_pins xs ys (sym c.eq.ensures ∙ is)), (λ same. c.eq.ensures ∙ ap (pointwise same_pin xs) (sym same) ∙ pins_same xs))

@@ -13,8 +13,10 @@ pub returns-clause-tied : goal.returns-clause-tied
 returns-clause-tied c =
     λ log long.
     subst (λ (hs : Parts). IsTied (machine_of c.args.n c.args.first c.in_ok-words.words.items c.in_ok-parties.parties.items hs) log) (sym c.opening.ensures)
-    (subst (λ (ps : List Party). IsTied (machine_of c.args.n c.args.first c.in_ok-words.words.items ps (opening_parts c.args.first)) log) (sym c.in_ok-parties.ensures)
-    (opening_machine c.args.n c.args.first c.in_ok-words.words.items c.args.roles.now (omega arith) (omega arith) c.in_ok-words.ensures c.requires.one_archiver c.requires.one_flusher log long))
+    (subst (λ (ps : List Party). IsTied (machine_of c.args.n c.args.first c.in_ok-words.words.items ps (opening_parts c.args.first)) log)
+    (sym c.in_ok-parties.ensures)
+    (opening_machine c.args.n c.args.first c.in_ok-words.words.items c.args.roles.now (omega arith)
+    (omega arith) c.in_ok-words.ensures c.requires.one_archiver c.requires.one_flusher log long))
 
 pub invariant_of-result : goal.invariant_of-result
 invariant_of-result c =
@@ -23,7 +25,10 @@ invariant_of-result c =
     record {
       few = omega arith;
       log = log;
-      tied = subst (λ (hs : Parts). IsTied (machine_of c.args.n c.args.first c.in_ok-words.words.items c.in_ok-parties.parties.items hs) log) (sym c.opening.ensures)
-          (subst (λ (ps : List Party). IsTied (machine_of c.args.n c.args.first c.in_ok-words.words.items ps (opening_parts c.args.first)) log) (sym c.in_ok-parties.ensures)
-          (opening_machine c.args.n c.args.first c.in_ok-words.words.items c.args.roles.now (omega arith) (omega arith) c.in_ok-words.ensures c.requires.one_archiver c.requires.one_flusher log (length-replicate c.args.first e)));
+      tied = subst (λ (hs : Parts). IsTied (machine_of c.args.n c.args.first c.in_ok-words.words.items c.in_ok-parties.parties.items hs) log)
+          (sym c.opening.ensures)
+          (subst (λ (ps : List Party). IsTied (machine_of c.args.n c.args.first c.in_ok-words.words.items ps (opening_parts c.args.first)) log)
+          (sym c.in_ok-parties.ensures)
+          (opening_machine c.args.n c.args.first c.in_ok-words.words.items c.args.roles.now (omega arith)
+          (omega arith) c.in_ok-words.ensures c.requires.one_archiver c.requires.one_flusher log (length-replicate c.args.first e)));
     }
