@@ -1,0 +1,54 @@
+-- A ring of one shard and a file over parts that stand for what they reach may be opened from position 0 on.
+use Rattle.std.proofs.Common.{◌≡◌, ℕ, zero, suc, ◌^◌, ◌<◌, ◌≤◌, List, [], ◌∷◌, length, sym, refl, ap, ◌∙◌, arith, subst}
+use Rattle.std.specs.Prelude.{⊤, All, Some, slice_get, Option as Maybe}
+use Rattle.std.proofs.lemmas.Option.{same_Some, none-some}
+use Rattle.std.proofs.lemmas.List.Elements.{All-nil}
+use Rattle.go_core.specs.declared.part.PartState.{PartState}
+use Rattle.go_core.specs.Parts.{Reaches, no_mark}
+use Rattle.go_rule.specs.declared.layout.Key.{Key}
+use Rattle.go_rule.specs.Meaning.{Meaning, meaning}
+use Rattle.go_rule.specs.Views.{opened_of}
+use Rattle.go_rule.specs.Rule.{IsBelow}
+use Rattle.go_rule.specs.Opening.{CanOpen, IsFirst, IsFirstShard, IsFirstFile}
+
+-- what a part means of which no more is known than its state
+abbrev pub plain_meaning : Meaning PartState
+plain_meaning = meaning (λ s. s) (λ s first log. Reaches s log) (λ s place shards vertices. place ≤ shards) (λ s front. (s.cut ≤ front)
+    × (front ≤ s.front)) (λ s. ⊥) (λ s. no_mark)
+    (λ s log vertices first mark. ⊤)
+
+-- a part that has taken in nothing
+abbrev pub empty_part : PartState
+empty_part = record { front = 0; cut = 0; pins = [] }
+
+both_empty : (place : ℕ) (part : PartState) → slice_get (empty_part ∷ empty_part ∷ []) place ≡ Some part → (empty_part ≡ part) × (place ≤ 1)
+both_empty zero part there = (same_Some empty_part part there, omega arith)
+both_empty (suc zero) part there = (same_Some empty_part part there, omega arith)
+both_empty (suc (suc place)) part there = absurd (none-some part there)
+
+pub sample_opens : (key : Key PartState) (slots : List (Maybe PartState)) → key.layout.shards ≡ 1 → key.first ≡ 0 → opened_of key ≡ [] → key.quota < 2 ^ 31
+    → key.file.value ≡ empty_part → slots ≡ Some empty_part ∷ Some empty_part ∷ [] → CanOpen plain_meaning key slots
+sample_opens key slots one zero' none few file all =
+    record {
+      room = record {
+        long = ap length none ∙ sym zero';
+        below = subst (All (IsBelow key.layout.vertices)) (sym none) (All-nil (IsBelow key.layout.vertices));
+        few = omega arith;
+      };
+      parts = empty_part ∷ empty_part ∷ [];
+      all = all;
+      count = omega arith;
+      first = λ place part there.
+          (let is = both_empty place part there in
+          let small = is.1 in
+          subst (IsFirst plain_meaning key place) is.0 (record { fits = omega arith; front = sym zero'; stands = omega arith }));
+      shards = λ place part there shard.
+          subst (IsFirstShard plain_meaning key) (both_empty place part there).0 (record {
+            cut = omega arith;
+            pins = refl;
+            keeps =
+                (omega arith, omega arith);
+          });
+      file = λ place part there at.
+          subst (IsFirstFile plain_meaning key) (both_empty place part there).0 (record { same = sym file; whole = λ gone. gone; recovers = tt });
+    }

@@ -1,0 +1,22 @@
+-- `store_durable`: the step keeps the rule.
+use Rattle.std.proofs.Common.{ℕ, arith, subst}
+use mathlib.Core.Option.{none}
+use Rattle.atomic_table.specs.Table.{step}
+use Rattle.go_rule.specs.Meaning.{meaning}
+use Rattle.go_rule.specs.Steps.{CanFlushTo}
+use Rattle.go_rule.proofs.WorkerSteps.{flush_allowed}
+use Rattle.go_rule.proofs.workers.store_durable.Goals as goal
+
+pub store-requires : goal.store-requires
+store-requires g c =
+    let ring = c.args.ring.now in
+    let t = ring.table.shared in
+    let words = ring.words_is in
+    let seat = c.args.seat.now in
+    let front = c.args.front in (
+      c.requires.at.0,
+      omega arith,
+      flush_allowed (meaning g.T.Part.state_of g.T.Part.stands_for g.T.Part.fits g.T.Part.keeps g.T.Part.is_spent g.T.Part.mark_of g.T.Part.recovers)
+          (record { stands_on = g.met.T.Part.stands_on; recovers_on = g.met.T.Part.recovers_on }) t.key t.table_id.slots seat.id seat.me c.requires.at.1
+          (step t.table_id.slots 2 front 0 none) front (subst (λ (n : ℕ). CanFlushTo n seat.me.0 front) ring.shards_is c.requires.can),
+    )
