@@ -1,0 +1,7 @@
+-- The lemmas on the ring's calls.
+pub mod Copying
+pub mod Ends
+pub mod Fills
+pub mod Turns
+pub mod Parts
+pub mod Runs
