@@ -1,0 +1,7 @@
+-- The lemmas on members, neighbours, marks, levels, ranks and hops.
+pub mod MemberLemmas
+pub mod WithinLemmas
+pub mod MarkLemmas
+pub mod LevelLemmas
+pub mod RankLemmas
+pub mod LawLemmas
