@@ -1,5 +1,6 @@
 -- Lemmas on chains of entries: the latest entry of a vertex, and a step back from one to the one before.
-use Rattle.std.proofs.Common.{◌≡◌, ◌≢◌, ℕ, zero, suc, ◌+◌, ◌-◌, ◌<◌, ◌≤◌, true, false, List, [], ◌∷◌, ◌++◌, length, map, take, get_or, reverse, refl, sym, ap, ◌∙◌, subst, arith, inl, inr, cond, Bool, length-take-le, get_or-take, take-take, take-suc, append_assoc}
+use Rattle.std.proofs.Common.{◌≡◌, ◌≢◌, ℕ, zero, suc, ◌+◌, ◌-◌, ◌<◌, ◌≤◌, true, false, List, [], ◌∷◌, ◌++◌, length, map, take, get_or, reverse, refl, sym}
+use Rattle.std.proofs.Common.{ap, ◌∙◌, subst, arith, inl, inr, cond, Bool, length-take-le, get_or-take, take-take, take-suc, append_assoc}
 use Rattle.std.proofs.lemmas.Bool.Decides.{nat_tests, eqb_tells}
 use Rattle.std.proofs.lemmas.List.{map-append, reverse-append}
 use Rattle.std.proofs.lemmas.List.Sums.{sum_by-cons}
@@ -47,7 +48,8 @@ entries_from-none s zero = refl
 entries_from-none s (suc n) = refl
 
 -- where only the first entry can leave a vertex, it is told by the number of the latest
-entries_from-first : (s : ℕ) (x : Edge) (log more : List Edge) (b : Bool) → entries_from s more ≡ [] → leaves s x ≡ b → entries_from s (x ∷ more) ≡ entries_from s (take (if b then 1 else 0) (x ∷ log))
+entries_from-first : (s : ℕ) (x : Edge) (log more : List Edge) (b : Bool) → entries_from s more ≡ [] → leaves s x ≡ b →
+    entries_from s (x ∷ more) ≡ entries_from s (take (if b then 1 else 0) (x ∷ log))
 entries_from-first s x log more true none is = ap (λ r. cond (leaves s x) (x ∷ r) r) none
 entries_from-first s x log more false none is = rw is none
 
@@ -63,7 +65,8 @@ entries_from-past s (suc c) (x ∷ log) past =
           let none : latest_of s log ≡ 0 = h.1 in
           let rest : entries_from s (take c log) ≡ entries_from s (take (latest_of s log) log) = entries_from-past s c log (omega (arith, none)) in
           let empty : entries_from s (take (latest_of s log) log) ≡ [] = rw none refl in
-          subst (λ (n : ℕ). entries_from s (x ∷ take c log) ≡ entries_from s (take n (x ∷ log))) (sym (latest_of-cons_none s x log none)) (entries_from-first s x log (take c log) (leaves s x) (rest ∙ empty) refl)
+          subst (λ (n : ℕ). entries_from s (x ∷ take c log) ≡ entries_from s (take n (x ∷ log))) (sym (latest_of-cons_none s x log none))
+          (entries_from-first s x log (take c log) (leaves s x) (rest ∙ empty) refl)
       | inr h ↦
           let more = latest_of-cons_some s x log h.1 in
           let rest = entries_from-past s c log (omega (arith, past, more)) in
@@ -98,7 +101,8 @@ pub record IsLatestAt (s top slot : ℕ) (log : List Edge) (d : Edge) : Type 0 w
   pub entries : entries_from s (take top log) ≡ entries_from s (take slot log) ++ get_or log slot d ∷ []
 
 -- a number that isn't 0 tells the slot of the latest entry
-pub latest_at : (s top number : ℕ) (log : List Edge) (d : Edge) → top ≤ length log → 0 < number → number ≡ latest_of s (take top log) → IsLatestAt s top (number - 1) log d
+pub latest_at : (s top number : ℕ) (log : List Edge) (d : Edge) → top ≤ length log → 0 < number → number ≡ latest_of s (take top log) →
+    IsLatestAt s top (number - 1) log d
 latest_at s top number log d within some is =
     let slot = number - 1 in
     let next : number ≡ suc slot = omega arith in
@@ -107,7 +111,8 @@ latest_at s top number log d within some is =
     let below : slot < top = omega arith in
     let there : get_or (take top log) slot d ≡ get_or log slot d = get_or-take top log slot d below in
     let leaving : leaves s (get_or log slot d) ≡ true = subst (λ (e : Edge). leaves s e ≡ true) there (leaves_latest s (take top log) slot d (sym is ∙ next)) in
-    let past : entries_from s (take top (take top log)) ≡ entries_from s (take (latest_of s (take top log)) (take top log)) = entries_from-past s top (take top log) (omega arith) in
+    let past : entries_from s (take top (take top log)) ≡ entries_from s (take (latest_of s (take top log)) (take top log)) =
+    entries_from-past s top (take top log) (omega arith) in
     let whole : take top (take top log) ≡ take top log = take-take top top log (omega arith) in
     let part : take number (take top log) ≡ take number log = take-take number top log (omega arith) in
     let cut : take number log ≡ take slot log ++ get_or log slot d ∷ [] = ap (λ (n : ℕ). take n log) next ∙ take-suc log slot d (omega arith) in
@@ -115,7 +120,8 @@ latest_at s top number log d within some is =
     record {
       before = below;
       source = grind (arith, nat_tests, leaving);
-      entries = ap (entries_from s) (sym whole) ∙ past ∙ ap (λ (n : ℕ). entries_from s (take n (take top log))) (sym is) ∙ ap (entries_from s) (part ∙ cut) ∙ filter-append (leaves s) (take slot log) (get_or log slot d ∷ []) ∙ ap (λ r. entries_from s (take slot log) ++ r) last;
+      entries = ap (entries_from s) (sym whole) ∙ past ∙ ap (λ (n : ℕ). entries_from s (take n (take top log))) (sym is) ∙ ap (entries_from s) (part ∙ cut)
+          ∙ filter-append (leaves s) (take slot log) (get_or log slot d ∷ []) ∙ ap (λ r. entries_from s (take slot log) ++ r) last;
     }
 
 -- a number is that of the latest of the first entries where none of the others leaves the vertex
@@ -128,14 +134,18 @@ latest_of-shorter s n m number log shorter is few =
 pub entries_from-done : (s top number : ℕ) (log : List Edge) → number ≡ latest_of s (take top log) → number ≡ 0 → entries_from s (take top log) ≡ []
 entries_from-done s top number log is none =
     let zero_latest : latest_of s (take top log) ≡ 0 = sym is ∙ none in
-    let past : entries_from s (take top (take top log)) ≡ entries_from s (take (latest_of s (take top log)) (take top log)) = entries_from-past s top (take top log) (omega (arith, zero_latest)) in
+    let past : entries_from s (take top (take top log)) ≡ entries_from s (take (latest_of s (take top log)) (take top log)) =
+    entries_from-past s top (take top log) (omega (arith, zero_latest)) in
     ap (entries_from s) (sym (take-take top top log (omega arith))) ∙ past ∙ ap (λ (n : ℕ). entries_from s (take n (take top log))) zero_latest
 
 -- the word of the latest entry comes next where a list is written backwards
-pub words_back : (s top slot : ℕ) (log : List Edge) (d : Edge) (old new all : List ℕ) (w : ℕ) → IsLatestAt s top slot log d → new ≡ old ++ w ∷ [] → w ≡ plain_word (get_or log slot d)
+pub words_back : (s top slot : ℕ) (log : List Edge) (d : Edge) (old new all : List ℕ) (w : ℕ) → IsLatestAt s top slot log d → new ≡ old ++ w ∷ [] →
+    w ≡ plain_word (get_or log slot d)
     → map plain_word (entries_from s (take top log)) ++ reverse old ≡ all → map plain_word (entries_from s (take slot log)) ++ reverse new ≡ all
 words_back s top slot log d old new all w latest pushed word so_far =
     let front = map plain_word (entries_from s (take slot log)) in
     let back : reverse new ≡ w ∷ reverse old = ap reverse pushed ∙ reverse-append old (w ∷ []) in
-    let cut : map plain_word (entries_from s (take top log)) ≡ front ++ plain_word (get_or log slot d) ∷ [] = ap (map plain_word) latest.entries ∙ map-append plain_word (entries_from s (take slot log)) (get_or log slot d ∷ []) in
-    ap (λ l. front ++ l) (back ∙ ap (λ (v : ℕ). v ∷ reverse old) word) ∙ sym (append_assoc front (plain_word (get_or log slot d) ∷ []) (reverse old)) ∙ ap (λ l. l ++ reverse old) (sym cut) ∙ so_far
+    let cut : map plain_word (entries_from s (take top log)) ≡ front ++ plain_word (get_or log slot d) ∷ [] = ap (map plain_word) latest.entries
+    ∙ map-append plain_word (entries_from s (take slot log)) (get_or log slot d ∷ []) in
+    ap (λ l. front ++ l) (back ∙ ap (λ (v : ℕ). v ∷ reverse old) word) ∙ sym (append_assoc front (plain_word (get_or log slot d) ∷ []) (reverse old))
+    ∙ ap (λ l. l ++ reverse old) (sym cut) ∙ so_far

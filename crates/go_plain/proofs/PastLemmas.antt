@@ -1,10 +1,11 @@
 -- Lemmas on the log as it is put together from what was opened, the rings that were moved out, and the ring.
-use Rattle.std.proofs.Common.{◌≡◌, ℕ, zero, suc, ◌-◌, ◌≤◌, List, [], ◌∷◌, ◌++◌, length, take, drop, map, Option, Some, refl, ap, arith, sym, ◌∙◌, append_assoc, append-nil, take_all}
+use Rattle.std.proofs.Common.{◌≡◌, ℕ, zero, suc, ◌-◌, ◌≤◌, List, [], ◌∷◌, ◌++◌, length, take, drop, map, Option, Some, refl, ap, arith, sym, ◌∙◌}
+use Rattle.std.proofs.Common.{append_assoc, append-nil, take_all}
 use Rattle.std.proofs.lemmas.Grind.{flat_map-append}
 use Rattle.std.proofs.lemmas.List.{length-drop, map-append}
 use Rattle.go_word.specs.declared.edge.Edge.{Edge}
-use Rattle.go_plain.specs.declared.journal.Journal.{Journal}
-use Rattle.go_plain.specs.Journal.{front_of}
+use Rattle.go_durable.specs.declared.journal.Journal.{Journal}
+use Rattle.go_durable.specs.Journal.{journal_front}
 use Rattle.go_plain.specs.Past.{entries_of, log_of}
 use Rattle.go_plain.specs.Plain.{journal_in}
 use Rattle.go_plain.specs.Ring.{RingState}
@@ -27,7 +28,8 @@ log_moved old past ring room vertices =
 pub log_pushed : (old : List Edge) (past : List RingState) (ring : RingState) (e : Edge) →
     log_of old past (record ring { entries = ring.entries ++ e ∷ [] }) ≡ log_of old past ring ++ e ∷ []
 log_pushed old past ring e =
-    ap (λ (l : List Edge). old ++ l) (sym (append_assoc (entries_of past) ring.entries (e ∷ []))) ∙ sym (append_assoc old (entries_of past ++ ring.entries) (e ∷ []))
+    ap (λ (l : List Edge). old ++ l) (sym (append_assoc (entries_of past) ring.entries (e ∷ [])))
+    ∙ sym (append_assoc old (entries_of past ++ ring.entries) (e ∷ []))
 
 -- what a plain store's log file is, where it is not set aside
 pub journal_there : {D : Type 0} (opened : D) (kept : Option (Journal D)) (journal : Journal D) → kept ≡ Some journal → journal_in opened kept ≡ journal
@@ -38,15 +40,18 @@ pub rest_is : (k : ℕ) (edges : List Edge) → take (length edges - k) (drop k 
 rest_is k edges = take_all (length edges - k) (drop k edges) (omega (arith, length-drop k edges))
 
 -- the past rings, with one more
-pub past_more : {V : Type 0} (value : V → RingState) (past kept more : List V) (one : V) (ring : RingState) → kept ≡ past → more ≡ kept ++ one ∷ [] → value one ≡ ring → map value more ≡ map value past ++ ring ∷ []
+pub past_more : {V : Type 0} (value : V → RingState) (past kept more : List V) (one : V) (ring : RingState) → kept ≡ past → more ≡ kept ++ one ∷ [] →
+    value one ≡ ring → map value more ≡ map value past ++ ring ∷ []
 past_more value past kept more one ring same pushed is =
     ap (map value) (pushed ∙ ap (λ l. l ++ one ∷ []) same) ∙ map-append value past (one ∷ []) ∙ ap (λ (r : RingState). map value past ++ r ∷ []) is
 
 -- the log stays when the ring is emptied
-pub log_kept : (old : List Edge) (past more : List RingState) (ring cleared : RingState) → more ≡ past ++ ring ∷ [] → cleared ≡ record ring { entries = [] } → log_of old more cleared ≡ log_of old past ring
+pub log_kept : (old : List Edge) (past more : List RingState) (ring cleared : RingState) → more ≡ past ++ ring ∷ [] →
+    cleared ≡ record ring { entries = [] } → log_of old more cleared ≡ log_of old past ring
 log_kept old past more ring cleared are is = rw (are, is) (log_moved old past ring ring.room ring.vertices)
 
 -- what the log file lacks, as it is cut out of the ring's entries
-pub lacking_is : {D : Type 0} (front moved : ℕ) (entries newest : List Edge) (journal kept : Journal D) → kept ≡ journal → front ≡ front_of journal → entries ≡ newest →
-    take (length entries - (front - moved)) (drop (front - moved) entries) ≡ drop (front_of kept - moved) newest
+pub lacking_is : {D : Type 0} (front moved : ℕ) (entries newest : List Edge) (journal kept : Journal D) → kept ≡ journal → front ≡ journal_front journal →
+    entries ≡ newest →
+    take (length entries - (front - moved)) (drop (front - moved) entries) ≡ drop (journal_front kept - moved) newest
 lacking_is front moved entries newest journal kept same is are = rest_is (front - moved) entries ∙ rw (same, is, are) refl

@@ -5,9 +5,10 @@ use Rattle.std.proofs.Math.ListN.{get_or-eq_default}
 use Rattle.std.proofs.lemmas.Bool.Decides.{leb_tells}
 use Rattle.std.proofs.lemmas.Option.{slice_get_within, get_or_from_slice_get}
 use Rattle.go_api.specs.Standing.{ShowsSeen}
+use Rattle.go_api.specs.declared.place.TheConstants.{PLACES}
 use Rattle.go_api.specs.declared.place.Place.{Place}
 use Rattle.go_api.specs.declared.place.Place.TheVariants.{Free, View}
-use Rattle.go_plain.specs.Shards.{views_of}
+use Rattle.go_plain.specs.Views.{views_of}
 
 -- what a place shows is there later too
 pub shows_longer : (short long : ℕ) (place : Place) → short ≤ long → ShowsSeen short place → ShowsSeen long place
@@ -35,13 +36,14 @@ views_set (p ∷ places) zero front n there = elim (contains_cons front n (views
   | inr later ↦ inr (views_cons p places n later)
 ]
 views_set (Free ∷ places) (suc k) front n there = views_set places k front n there
-views_set (View other ∷ places) (suc k) front n there = elim (contains_cons other n (views_of (set places k (View front))) there) as (λ _. (front ≡ n) ⊎ Contains (other ∷ views_of places) n) [
-  | inl is ↦ inr (zero, omega arith, is)
-  | inr later ↦ elim (views_set places k front n later) as (λ _. (front ≡ n) ⊎ Contains (other ∷ views_of places) n) [
-    | inl is ↦ inl is
-    | inr there_too ↦ inr (contains_later other n (views_of places) there_too)
-  ]
-]
+views_set (View other ∷ places) (suc k) front n there = elim (contains_cons other n (views_of (set places k (View front))) there) as (λ _. (front ≡ n)
+    ⊎ Contains (other ∷ views_of places) n) [
+      | inl is ↦ inr (zero, omega arith, is)
+      | inr later ↦ elim (views_set places k front n later) as (λ _. (front ≡ n) ⊎ Contains (other ∷ views_of places) n) [
+        | inl is ↦ inl is
+        | inr there_too ↦ inr (contains_later other n (views_of places) there_too)
+      ]
+    ]
 
 -- a place that holds a view is one of the views
 pub view_there : (places : List Place) (k front : ℕ) → slice_get places k ≡ Some (View front) → Contains (views_of places) front
@@ -58,8 +60,9 @@ view_read places k front there is held =
     (let h : View front ≡ View there = same in cc)
 
 -- a view shows no more than the log has
-pub shown_within : (places : List Place) (k front len : ℕ) → length places ≡ 4 → All (ShowsSeen len) places → get_or places k Free ≡ View front → front ≤ len
-shown_within places k front len four shown held = elim (leb_tells (suc k) (length places)) [
+pub shown_within : (places : List Place) (k front len : ℕ) → length places ≡ PLACES → All (ShowsSeen len) places → get_or places k Free ≡ View front →
+    front ≤ len
+shown_within places k front len count shown held = elim (leb_tells (suc k) (length places)) [
   | inl h ↦ subst (ShowsSeen len) held (shown k Free h.1)
   | inr h ↦
       let past : get_or places k Free ≡ Free = get_or-eq_default places Free (omega (arith, h.1)) in

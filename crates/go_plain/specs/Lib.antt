@@ -1,7 +1,8 @@
 -- The definitions of plain stores.
 pub mod Ring
-pub mod Split
-pub mod Shards
-pub mod Journal
+pub mod Skips
+pub mod RingFields
+pub mod Views
 pub mod Plain
 pub mod Past
+pub mod Fields

@@ -2,8 +2,8 @@
 use Rattle.std.specs.Prelude.{◌≡◌, ◌==◌, ℕ, ◌+◌, ◌<◌, ◌≤◌, if◌then◌else◌, List, [], ◌∷◌, length, All, get_or, take}
 use Rattle.go_word.specs.declared.edge.Edge.{Edge}
 use Rattle.go_word.specs.Log.{IsWithin, leaves}
-use Rattle.go_shard.specs.declared.store.TheConstants.{VERTEX_LIMIT}
-use Rattle.go_plain.specs.declared.ring.TheConstants.{RING_LIMIT}
+use Rattle.go_word.specs.declared.edge.TheConstants.{VERTEX_LIMIT}
+use Rattle.go_api.specs.declared.limits.TheConstants.{SLOT_LIMIT}
 
 -- a ring has entries in the order of their arrival, room for so many, and so many vertices that they may be between
 pub record RingState : Type 0 where
@@ -14,7 +14,7 @@ pub record RingState : Type 0 where
 -- what is true of every ring
 pub record IsRing (ring : RingState) : Type 0 where
   pub some : 1 ≤ ring.room
-  pub small : ring.room ≤ RING_LIMIT
+  pub small : ring.room ≤ SLOT_LIMIT
   pub few : ring.vertices ≤ VERTEX_LIMIT
   pub within : length ring.entries ≤ ring.room
   pub ids : All (IsWithin ring.vertices) ring.entries
@@ -29,11 +29,3 @@ pub record IsChained (entries : List Edge) (latest prior : List ℕ) : Type 0 wh
   pub slots : length prior ≡ length entries
   pub told : (s : ℕ) → s < length latest → get_or latest s 0 ≡ latest_of s entries
   pub linked : (k : ℕ) (d : Edge) → k < length entries → get_or prior k 0 ≡ latest_of (get_or entries k d).src (take k entries)
-
--- a ring's entries are chained, and there is memory for all that it has room for
-pub record IsKept (ring : RingState) (latest prior : List ℕ) (entry_memory prior_memory : ℕ) : Type 0 where
-  pub sound : IsRing ring
-  pub vertices : length latest ≡ ring.vertices
-  pub chained : IsChained ring.entries latest prior
-  pub entry_room : ring.room ≤ entry_memory
-  pub prior_room : ring.room ≤ prior_memory

@@ -4,7 +4,7 @@
 //! opened, the log, how much of it was moved out of the ring, and the log file. `standing_of` is what its session's handle
 //! stands for: `PlainSession` is a `Store` of go_api.
 //! A caller may rely on this: a put answers the next position; a view shows the whole log, and what is read in it is the value over
-//! so many first entries, whatever was moved since; `finish` leaves all on the disk, or a stop with its cause (`HasFinished`); a
+//! so many first entries, whatever was moved since; `finish` leaves all on the disk, or a stop with its cause (`HasEnded`); a
 //! crash at any moment since the store was made leaves a part of the log with all that was there at opening.
 //! Entries are moved out of the ring where it is full and at the end, and nowhere else: all of them, to the file in blocks of at
 //! most 65,536 and then to the shards, which keep the front of each view.
@@ -12,14 +12,12 @@
 //! docs/ARCHITECTURE.md follows an edge through it.
 #![tactic(auto)]
 
-mod journal;
 mod making;
-mod reading;
 mod ring;
 mod session;
-mod shards;
-mod split;
+mod skip;
 mod store;
+mod views;
 
 pub use making::Unmade;
 pub use session::PlainSession;

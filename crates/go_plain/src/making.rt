@@ -2,18 +2,16 @@
 ghost use Rattle.std.specs.Prelude.{◌≡◌, ◌+◌, ◌<◌, ◌≤◌, ◌^◌, [], List, All, length, slice_index, IfOk, MatchResult};
 ghost use Rattle.go_word.specs.declared.edge.Edge.{Edge as Entry};
 ghost use Rattle.go_word.specs.Log.{IsWithin};
-ghost use Rattle.go_api.specs.Limits.{IsSetup};
-ghost use Rattle.go_plain.specs.Plain.{made_of};
-ghost use Rattle.go_plain.specs.Shards.{HaveParts};
+ghost use Rattle.go_api.specs.declared.limits.TheConstants.{LOG_ENTRIES};
+ghost use Rattle.go_plain.specs.Plain.{IsPlainSetup, made_of};
+ghost use Rattle.go_shard.specs.Parts.{HaveParts};
 
-use crate::journal::Journal;
 use crate::ring::Ring;
-use crate::shards::catch_up;
 use crate::store::PlainStore;
-use go_api::{Place, Setup};
+use go_api::{PLACES, Place, Setup};
 use go_disk::Disk;
-use go_durable::Opened;
-use go_shard::Shard;
+use go_durable::{Journal, Opened};
+use go_shard::{Shard, catch_up, empty_shards};
 use go_word::Edge;
 use std::alloc::{AllocError, Global};
 use std::snapshot::Snapshot;
@@ -34,10 +32,10 @@ impl<D: Disk> PlainStore<D> {
         setup: Setup,
         quotas: &[u64],
     ) -> Result<PlainStore<D>, Unmade<D>>
-        requires setup { IsSetup setup }
+        requires setup { IsPlainSetup setup }
         requires vertices { opened.log.vertices ≡ setup.vertices }
         requires one { length quotas.now ≡ 1 }
-        requires room { length opened.edges + slice_index quotas.now 0 ≤ 2 ^ 26 }
+        requires room { length opened.edges + slice_index quotas.now 0 ≤ LOG_ENTRIES }
         ensures { MatchResult result (λ store. store ≡ made_of opened setup (slice_index quotas.now 0)) (λ unmade. unmade.disk ≡ opened.log.disk) }
     {
         let Opened { log, edges } = opened;
@@ -63,31 +61,19 @@ impl<D: Disk> PlainStore<D> {
             ring,
             journal: Some(Journal::Sound { log }),
             quota: quotas[0],
-            places: [Place::Free; 4],
+            places: [Place::Free; PLACES],
         })
     }
 }
 
 // The shards of a store, with all entries of a log.
 fn make_shards(alloc: Global, setup: Setup, edges: &[Edge]) -> Result<Vec<Shard>, AllocError>
-    requires setup { IsSetup setup }
+    requires setup { IsPlainSetup setup }
     requires ids { All (IsWithin setup.vertices) edges.now }
     requires small { length edges.now < 2 ^ 32 }
     ensures { IfOk result (λ shards. HaveParts setup.vertices (length shards.items) (length edges.now) [] edges.now shards.items) }
 {
-    let mut shards = empty_shards(alloc, setup)?;
-    catch_up(alloc, &mut shards, edges, 0, &[Place::Free; 4])?;
-    Ok(shards)
-}
-
-// The shards of a store without entries.
-fn empty_shards(alloc: Global, setup: Setup) -> Result<Vec<Shard>, AllocError>
-    requires { IsSetup setup }
-    ensures { IfOk result (λ shards. (log : List Entry) → HaveParts setup.vertices setup.shards 0 [] log shards.items) }
-{
-    let mut shards = Vec::with_capacity(alloc, setup.shards as usize)?;
-    for i in 0..setup.shards {
-        shards.push(Shard::new(alloc, i, setup.shards, setup.vertices)?)?;
-    }
+    let mut shards = empty_shards(alloc, setup.shards, setup.vertices)?;
+    catch_up(alloc, &mut shards, edges, 0, &[])?;
     Ok(shards)
 }

@@ -2,15 +2,13 @@
 ghost use Rattle.std.specs.Prelude.{◌≡◌, ℕ, ◌+◌, ◌<◌, ◌≤◌, ◌==◌, ◌∷◌, ◌++◌, [], if◌then◌else◌, All, IfOk, OnOk, get_or, length, map, reverse, take};
 ghost use Rattle.go_word.specs.Log.{IsWithin, entries_from, raw};
 ghost use Rattle.go_word.specs.Word.{plain_word};
+ghost use Rattle.go_api.specs.declared.limits.TheConstants.{SLOT_LIMIT};
 ghost use Rattle.go_plain.specs.Ring.{IsRing, latest_of};
 
-use go_shard::VERTEX_LIMIT;
-use go_word::{Edge, plain};
+use crate::skip::Skip;
+use go_word::{Edge, VERTEX_LIMIT, plain};
 use std::alloc::{AllocError, Global};
 use std::marker::Model;
-
-/// A ring has room for at most so many entries.
-pub const RING_LIMIT: u32 = 1 << 20;
 
 /// The newest entries of a log, in the order of their arrival.
 ///
@@ -23,32 +21,28 @@ pub struct Ring {
     latest: Vec<u32>,
     // By entry the number of the one before it that leaves the same vertex.
     prior: Vec<u32>,
+    // By entry the way past those behind the mark that was the last when it came.
+    skips: Vec<Skip>,
+    // How many entries there were when the last view was taken.
+    mark: u32,
 }
 
 impl Model for Ring {
-    ghost use Rattle.std.specs.Prelude.{length, vec_capacity};
-    ghost use Rattle.go_plain.specs.Ring.{RingState, IsKept};
+    ghost use Rattle.go_plain.specs.Ring.{RingState};
+    ghost use Rattle.go_plain.specs.RingFields.{ring_of, IsKept};
 
     ghost Value = { RingState };
 
-    ghost view = { λ ring. record {
-      entries = ring.entries.items;
-      room = ring.room;
-      vertices = length ring.latest.items;
-    } };
+    ghost view = { ring_of };
 
-    ghost invariant = { λ ring. IsKept (record {
-      entries = ring.entries.items;
-      room = ring.room;
-      vertices = length ring.latest.items;
-    }) ring.latest.items ring.prior.items (vec_capacity ring.entries) (vec_capacity ring.prior) };
+    ghost invariant = { IsKept };
 }
 
 impl Ring {
     /// A ring without entries, with the memory for all that it has room for.
     pub fn new(alloc: Global, room: u32, vertices: u32) -> Result<Ring, AllocError>
         requires some { 1 ≤ room }
-        requires small { room ≤ RING_LIMIT }
+        requires small { room ≤ SLOT_LIMIT }
         requires few { vertices ≤ VERTEX_LIMIT }
         ensures { IfOk result (λ ring. ring ≡ record { entries = []; room = room; vertices = vertices }) }
     {
@@ -57,6 +51,8 @@ impl Ring {
             entries: Vec::with_capacity(alloc, room as usize)?,
             latest: vec![in alloc; 0u32; vertices as usize]?,
             prior: Vec::with_capacity(alloc, room as usize)?,
+            skips: Vec::with_capacity(alloc, room as usize)?,
+            mark: 0,
         })
     }
 
@@ -91,9 +87,19 @@ impl Ring {
         ensures { self.new ≡ record self.old { entries = self.old.entries ++ edge ∷ [] } }
     {
         let place = edge.src as usize;
-        self.prior.push_reserved(self.latest[place]);
+        let latest = self.latest[place];
+        let skip = Skip::past(self.mark, latest, &self.skips);
+        self.skips.push_reserved(skip);
+        self.prior.push_reserved(latest);
         self.entries.push_reserved(edge);
         self.latest[place] = self.entries.len() as u32;
+    }
+
+    /// Sets a mark behind all entries: what is asked of these later is found without a look at newer ones.
+    pub fn mark(&mut self)
+        ensures { self.new ≡ self.old }
+    {
+        self.mark = self.entries.len() as u32;
     }
 
     /// Gives the words of those of the first `count` entries that leave `v` into `out`, which is cleared first.
@@ -117,6 +123,8 @@ impl Ring {
         forget(&self.entries, &mut self.latest);
         self.entries.clear();
         self.prior.clear();
+        self.skips.clear();
+        self.mark = 0;
     }
 
     // Appends the words of those of the first `count` entries that leave `v`, the latest one first.
@@ -147,8 +155,14 @@ impl Ring {
         let mut slot = self.entries.len();
         let mut number = self.latest[v as usize] as usize;
         while number > count {
-            slot = number - 1;
-            number = self.prior[slot] as usize;
+            let skip = self.skips[number - 1];
+            if count <= skip.mark as usize {
+                slot = skip.mark as usize;
+                number = skip.latest as usize;
+            } else {
+                slot = number - 1;
+                number = self.prior[slot] as usize;
+            }
         }
         number
     }

@@ -1,6 +1,6 @@
 // The handle of the one session of a plain store.
 ghost use Rattle.std.specs.Prelude.{◌≡◌};
-ghost use Rattle.go_plain.specs.Plain.{standing_of, IsSameStore};
+ghost use Rattle.go_plain.specs.Plain.{standing_of, TellsRisen, GoesOnOver};
 
 use crate::store::PlainStore;
 use go_api::{Stop, Store};
@@ -20,7 +20,10 @@ impl<D: Disk> PlainStore<D> {
         requires { number ≡ 1 }
         ensures store { result.store ≡ self }
         ensures number { result.number ≡ number }
+        ensures risen { TellsRisen D.device result.store }
     {
+        // That a contract sees how the parts keep the log, one of them is read.
+        let _quota = self.quota;
         PlainSession {
             number,
             store: self,
@@ -43,14 +46,13 @@ impl<D: Disk> Store for PlainSession<D> {
 
     ghost stands = { λ session. standing_of session.store };
 
-    ghost became = { λ old new. IsSameStore old.store new.store };
+    ghost became = { λ old new. GoesOnOver D.device old.store new.store };
 
-    ghost same = { λ session. record { same_opened = refl; same_vertices = refl; same_first = refl } };
+    ghost same = { λ session. record { same = refl; risen = λ was. was } };
 
     ghost onwards = { λ one two three first later. record {
-      same_opened = later.same_opened ∙ first.same_opened;
-      same_vertices = later.same_vertices ∙ first.same_vertices;
-      same_first = later.same_first ∙ first.same_first;
+      same = later.same ∙ first.same;
+      risen = λ was. later.risen (first.risen was);
     } };
 
     fn vertices(&self) -> u32 {

@@ -2,17 +2,15 @@
 ghost use Rattle.std.specs.Prelude.{◌≡◌, ◌+◌, ◌-◌, ◌<◌, ◌++◌, ◌∷◌, [], length, Ok, OnOk, OnErr};
 ghost use Rattle.go_api.specs.Calls.{MayPut, Puts, IsFreeAt, Views, CanRead, ListsNeighbours};
 ghost use Rattle.go_api.specs.Standing.{IsSound};
-ghost use Rattle.go_plain.specs.Journal.{front_of};
-ghost use Rattle.go_plain.specs.Plain.{standing_of, IsSameStore, Flushes, IsOnlyFlushed, IsMovedOut, HasMadeRoom, HasFinished};
+ghost use Rattle.go_durable.specs.Journal.{journal_front};
+ghost use Rattle.go_plain.specs.Plain.{standing_of, IsSameStore, TellsRisen, Flushes, IsOnlyFlushed, IsMovedOut, HasMadeRoom, HasEnded};
 
-use crate::journal::{Flushed, Journal};
-use crate::reading::list_neighbours;
 use crate::ring::Ring;
-use crate::shards::catch_up;
-use go_api::{Finished, Place, Stop};
+use crate::views::fronts_of;
+use go_api::{PLACES, Place, Stop};
 use go_disk::Disk;
-use go_durable::DurableLog;
-use go_shard::Shard;
+use go_durable::{DurableLog, Finished, Flushed, Journal};
+use go_shard::{Shard, catch_up, list_neighbours};
 use go_word::Edge;
 use std::alloc::{AllocError, Global};
 use std::marker::Model;
@@ -36,39 +34,20 @@ pub struct PlainStore<D: Disk> {
     pub(crate) ring: Ring,
     pub(crate) journal: Option<Journal<D>>,
     pub(crate) quota: u64,
-    pub(crate) places: [Place; 4],
+    pub(crate) places: [Place; PLACES],
 }
 
 impl<D: Disk> Model for PlainStore<D> {
-    ghost use Rattle.std.specs.Prelude.{IsSome, map};
-    ghost use Rattle.go_plain.specs.Plain.{PlainState, IsPlain, journal_in};
-    ghost use Rattle.go_plain.specs.Past.{log_of};
+    ghost use Rattle.std.specs.Prelude.{IsSome};
+    ghost use Rattle.go_plain.specs.Plain.{PlainState, IsPlain};
 
     ghost Value = { PlainState D };
 
-    ghost view = { λ s. record {
-      opened = s.opened.value.disk;
-      vertices = s.vertices;
-      first = s.first;
-      log = log_of s.found.value.items (map (λ one. one.value) s.past.items) s.ring;
-      moved = s.moved;
-      room = s.ring.room;
-      journal = journal_in s.opened.value.disk s.journal;
-      quota = s.quota;
-      places = s.places;
-    } };
+    ghost use Rattle.go_plain.specs.Fields.{store_of};
 
-    ghost invariant = { λ s. IsSome s.journal × IsPlain D.seen D.base D.images D.clock D.since D.faults (record {
-      opened = s.opened.value.disk;
-      vertices = s.vertices;
-      first = s.first;
-      log = log_of s.found.value.items (map (λ one. one.value) s.past.items) s.ring;
-      moved = s.moved;
-      room = s.ring.room;
-      journal = journal_in s.opened.value.disk s.journal;
-      quota = s.quota;
-      places = s.places;
-    }) s.ring s.shards.items };
+    ghost view = { store_of };
+
+    ghost invariant = { λ s. IsSome s.journal × IsPlain D.device (store_of s) s.ring s.shards.items };
 }
 
 impl<D: Disk> PlainStore<D> {
@@ -81,14 +60,14 @@ impl<D: Disk> PlainStore<D> {
 
     /// How many vertices there are.
     pub(crate) fn vertices(&self) -> u32
-        ensures { result ≡ self.now.vertices }
+        ensures { result ≡ self.now.origin.vertices }
     {
         self.vertices
     }
 
     /// How long the log was when it was opened.
     pub(crate) fn opened(&self) -> u64
-        ensures { result ≡ self.now.first }
+        ensures { result ≡ self.now.origin.first }
     {
         self.first
     }
@@ -97,7 +76,9 @@ impl<D: Disk> PlainStore<D> {
     pub(crate) fn put(&mut self, edge: Edge) -> Result<u64, Stop>
         requires { MayPut edge (standing_of self.old) }
         ensures puts { Puts edge result (standing_of self.old) (standing_of self.new) }
+        ensures sound { IsSound (standing_of self.new) }
         ensures same { IsSameStore self.old self.new }
+        ensures risen { TellsRisen D.device self.new }
     {
         if let Err(why) = self.make_room() {
             return Err(why);
@@ -109,6 +90,7 @@ impl<D: Disk> PlainStore<D> {
     fn make_room(&mut self) -> Result<(), Stop>
         ensures made { HasMadeRoom self.old self.new result }
         ensures sound { IsSound (standing_of self.old) }
+        ensures risen { TellsRisen D.device self.new }
     {
         if !self.ring.is_full() {
             return Ok(());
@@ -132,7 +114,8 @@ impl<D: Disk> PlainStore<D> {
 
     // Moves all entries out of the ring, to the log file and then to the shards.
     fn move_out(&mut self) -> Result<(), Stop>
-        ensures { IsMovedOut self.old self.new result }
+        ensures moved { IsMovedOut self.old self.new result }
+        ensures risen { TellsRisen D.device self.new }
     {
         if let Err(why) = self.flush() {
             return Err(why);
@@ -147,6 +130,7 @@ impl<D: Disk> PlainStore<D> {
     fn flush(&mut self) -> Result<(), Stop>
         ensures flushes { Flushes result self.old self.new }
         ensures only { IsOnlyFlushed self.old self.new }
+        ensures risen { TellsRisen D.device self.new }
     {
         let Some(journal) = self.journal.take() else {
             unreachable!()
@@ -165,18 +149,19 @@ impl<D: Disk> PlainStore<D> {
 
     // Brings the shards up to the end of the log, and empties the ring.
     fn archive(&mut self) -> Result<(), AllocError>
-        requires { front_of self.old.journal ≡ length self.old.log }
+        requires { journal_front self.old.journal ≡ length self.old.log }
         ensures ok { OnOk result (self.new ≡ record self.old { moved = length self.old.log }) }
         ensures err { OnErr result (self.new ≡ self.old) }
     {
         let head = self.head();
         self.past.reserve(1)?;
+        let views = fronts_of(self.alloc, &self.places)?;
         catch_up(
             self.alloc,
             &mut self.shards,
             self.ring.entries(),
             self.moved,
-            &self.places,
+            &views,
         )?;
         self.past.push_reserved(Snapshot::of(&self.ring));
         self.ring.clear();
@@ -188,9 +173,12 @@ impl<D: Disk> PlainStore<D> {
     pub(crate) fn view(&mut self, place: u8) -> u64
         requires { IsFreeAt place (standing_of self.old) }
         ensures views { Views place (Ok result) (standing_of self.old) (standing_of self.new) }
+        ensures sound { IsSound (standing_of self.new) }
         ensures same { IsSameStore self.old self.new }
+        ensures risen { TellsRisen D.device self.new }
     {
         let front = self.head();
+        self.ring.mark();
         self.places[place as usize] = Place::View { front };
         front
     }
@@ -219,7 +207,7 @@ impl<D: Disk> PlainStore<D> {
 
     /// Appends to the log file what it lacks, and gives the disk back.
     pub fn finish(self) -> Finished<D>
-        ensures { HasFinished D.seen D.images D.clock D.since D.faults self result }
+        ensures { HasEnded D.device self result }
     {
         let PlainStore {
             journal,
@@ -231,11 +219,6 @@ impl<D: Disk> PlainStore<D> {
             unreachable!()
         };
         let lacking = (journal.front() - moved) as usize;
-        let Flushed { journal, stop } = journal.flush(&ring.entries()[lacking..]);
-        Finished {
-            durable: journal.front(),
-            disk: journal.into_disk(),
-            stop,
-        }
+        journal.finish(&ring.entries()[lacking..])
     }
 }

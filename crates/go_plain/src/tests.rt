@@ -1,10 +1,9 @@
-// Rows of a ring, a split and a small store, worked out by hand.
-ghost use Rattle.std.specs.Prelude.{◌≡◌, ◌≤◌, ◌^◌, ◌∷◌, [], true, false, IfSome};
-ghost use Rattle.go_api.specs.declared.place.Place.TheVariants.{Free};
+// Rows of a ring and a small store, worked out by hand.
+ghost use Rattle.std.specs.Prelude.{◌≡◌, ◌≤◌, ◌^◌, true, false, IfSome};
+ghost use Rattle.go_api.specs.Standing.{all_free};
 
 use crate::PlainStore;
 use crate::ring::Ring;
-use crate::split::split;
 use go_api::{Setup, Store};
 use go_disk::MemDisk;
 use go_durable::attach;
@@ -66,6 +65,46 @@ fn words_of_one_vertex_in_the_order_of_their_arrival(rt: HostRuntime) -> Result<
 }
 
 #[test]
+fn words_of_each_front_are_those_of_the_first_entries_wherever_marks_stand(
+    rt: HostRuntime,
+) -> Result<(), Fail> {
+    let mut ring = Ring::new(rt.alloc(), 9, 3)?;
+    ring.push(add(1, 0));
+    ring.push(add(2, 1));
+    ring.mark();
+    ring.push(add(1, 2));
+    ring.push(add(1, 1));
+    ring.push(add(0, 0));
+    ring.mark();
+    ring.mark();
+    ring.push(del(1, 2));
+    ring.push(add(2, 2));
+    ring.push(add(1, 0));
+    ring.mark();
+    ring.push(add(1, 1));
+    let mut words = Vec::new(rt.alloc());
+    for count in 0..10 {
+        for vertex in 0..3 {
+            ring.words_from(vertex, count, &mut words)?;
+            let mut want = Vec::new(rt.alloc());
+            for edge in &ring.entries()[..count] {
+                if edge.src == vertex {
+                    want.push(
+                        u64::from(edge.del) << 63 | u64::from(edge.src) << 31 | u64::from(edge.dst),
+                    )?;
+                }
+            }
+            assert_eq!(rt;
+                words.as_slice(),
+                want.as_slice(),
+                "words of {vertex} in the first {count}"
+            );
+        }
+    }
+    Ok(())
+}
+
+#[test]
 fn a_cleared_ring_has_only_what_comes_after(rt: HostRuntime) -> Result<(), Fail> {
     let mut ring = Ring::new(rt.alloc(), 1, 2)?;
     ring.push(add(1, 0));
@@ -79,23 +118,12 @@ fn a_cleared_ring_has_only_what_comes_after(rt: HostRuntime) -> Result<(), Fail>
     Ok(())
 }
 
-#[test]
-fn each_shard_has_the_entries_of_its_sources(rt: HostRuntime) -> Result<(), Fail> {
-    let edges = [add(0, 1), add(1, 0), add(2, 3), del(1, 0)];
-    let lists = split(rt.alloc(), &edges, 3)?;
-    assert_eq!(rt; lists.len(), 3);
-    assert_eq!(rt; lists[0].as_slice(), [add(0, 1)].as_slice());
-    assert_eq!(rt; lists[1].as_slice(), [add(1, 0), del(1, 0)].as_slice());
-    assert_eq!(rt; lists[2].as_slice(), [add(2, 3)].as_slice());
-    Ok(())
-}
-
 // A store over a disk, of 8 vertices and two shards, with a ring of one slot; for so many entries.
 fn store_over(alloc: Global, disk: MemDisk, quota: u64) -> Option<PlainStore<MemDisk>>
     requires { quota ≤ 2 ^ 20 }
     ensures quota { IfSome result (λ store. store.quota ≡ quota) }
-    ensures vertices { IfSome result (λ store. store.vertices ≡ 8) }
-    ensures places { IfSome result (λ store. store.places ≡ Free ∷ Free ∷ Free ∷ Free ∷ []) }
+    ensures vertices { IfSome result (λ store. store.origin.vertices ≡ 8) }
+    ensures places { IfSome result (λ store. store.places ≡ all_free) }
 {
     let opened = match attach(alloc, disk, 8, 1_000_000) {
         Ok(opened) => opened,

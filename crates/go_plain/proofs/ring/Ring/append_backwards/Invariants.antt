@@ -14,5 +14,6 @@ abbrev pub invariant-loop-number : goal.invariant-loop-number
 invariant-loop-number l = record {
   within : l.slot ≤ length l.self.entries;
   number : l.number ≡ latest_of l.v (take l.slot l.self.entries);
-  gathered : map plain_word (entries_from l.v (take l.slot l.self.entries)) ++ reverse l.out.items ≡ map plain_word (entries_from l.v (take l.count l.self.entries));
+  gathered : map plain_word (entries_from l.v (take l.slot l.self.entries)) ++ reverse l.out.items
+      ≡ map plain_word (entries_from l.v (take l.count l.self.entries));
 }

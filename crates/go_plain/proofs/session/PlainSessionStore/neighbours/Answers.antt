@@ -3,4 +3,4 @@ use Rattle.go_plain.proofs.StandingLemmas.{read_stopped}
 use Rattle.go_plain.proofs.session.PlainSessionStore.neighbours.Goals as goal
 
 pub returns-in-Err-clause-lists : goal.returns-in-Err-clause-lists
-returns-in-Err-clause-lists g c = read_stopped c.args.self.now.store c.in-Err.ensures.sound
+returns-in-Err-clause-lists g c = read_stopped c.args.self.now.store

@@ -1,10 +1,10 @@
 -- What `flush` keeps and leads to.
 use Rattle.std.proofs.Common.{◌-◌, List, length, take, drop, refl, sym, ap, subst, ◌∙◌}
 use Rattle.go_word.specs.declared.edge.Edge.{Edge}
-use Rattle.go_plain.specs.Journal.{KeepsOn}
+use Rattle.go_durable.specs.Journal.{KeepsOn}
 use Rattle.go_plain.specs.Plain.{PlainState}
-use Rattle.go_plain.specs.declared.journal.Journal.{Journal}
-use Rattle.go_plain.proofs.StoreLemmas.{plain_flushed, flush_is}
+use Rattle.go_durable.specs.declared.journal.Journal.{Journal}
+use Rattle.go_plain.proofs.StoreLemmas.{plain_flushed, flush_is, tells_risen}
 use Rattle.go_plain.proofs.PastLemmas.{journal_there, rest_is}
 use Rattle.go_plain.proofs.store.PlainStore.flush.Goals as goal
 
@@ -16,9 +16,11 @@ invariant_of-self g c =
     let kept = journal_there opened c.replace.new.self new c.replace.ensures.after in
     let lacking = c.front.result - c.self.inside.moved in
     let edges : List Edge = take (length c.entries.result.now - lacking) (drop lacking c.entries.result.now) in
-    let on = subst (λ (j : Journal _). KeepsOn g.D.Disk.seen g.D.Disk.base g.D.Disk.images g.D.Disk.clock g.D.Disk.since g.D.Disk.faults edges j new) (sym journal) c.flush-journal.ensures.keeps in
-    let are = rest_is lacking c.entries.result.now ∙ rw (journal, c.front.ensures, c.entries.ensures.exact) refl in
-    (rw c.replace.ensures.after refl, rw kept (plain_flushed g.D.Disk.seen g.D.Disk.base g.D.Disk.images g.D.Disk.clock g.D.Disk.since g.D.Disk.faults _ c.self.inside.ring c.self.inside.shards.items edges new c.self.invariant.1 are on))
+    let on = subst (λ (j : Journal _). KeepsOn g.D.Disk.device edges j new) (sym journal) c.flush-journal.ensures.keeps in
+    let are = rest_is lacking c.entries.result.now ∙ rw (journal, c.front.ensures, c.entries.ensures.exact) refl in (
+      rw c.replace.ensures.after refl,
+      rw kept (plain_flushed g.D.Disk.device _ c.self.inside.ring c.self.inside.shards.items c.self.invariant.1 edges new are on),
+    )
 
 pub returns-clause-only : goal.returns-clause-only
 returns-clause-only g c =
@@ -32,3 +34,6 @@ returns-clause-only g c =
       no_less = rw (was, kept) c.flush-journal.ensures.keeps.no_less;
       met_stays = rw (was, kept) c.flush-journal.ensures.keeps.met_stays;
     }
+
+pub returns-clause-risen : goal.returns-clause-risen
+returns-clause-risen g c = tells_risen g.D.Disk.device _ c.self.inside.ring c.self.inside.shards.items (invariant_of-self g c).1
