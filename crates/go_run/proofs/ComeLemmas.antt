@@ -1,5 +1,6 @@
 -- What a session that came over a log says of it: how its entries lie there, and over which parts of it its replies hold.
-use Rattle.std.proofs.Common.{◌≡◌, ℕ, zero, suc, ◌+◌, ◌-◌, ◌<◌, ◌≤◌, List, [], ◌∷◌, ◌++◌, length, take, drop, slice_get, Some, refl, ap, arith, sym, subst, ◌∙◌, inl, inr, length-drop, take-append-drop, append_assoc}
+use Rattle.std.proofs.Common.{◌≡◌, ℕ, zero, suc, ◌+◌, ◌-◌, ◌<◌, ◌≤◌, List, [], ◌∷◌, ◌++◌, length, take, drop, slice_get, Some, refl, ap, arith, sym, subst}
+use Rattle.std.proofs.Common.{◌∙◌, inl, inr, length-drop, take-append-drop, append_assoc}
 use Rattle.std.proofs.lemmas.Bool.Decides.{leb_tells}
 use Rattle.std.proofs.lemmas.Grind.{flat_map-append}
 use Rattle.std.proofs.lemmas.List.{take_all, take-take, length-take-le}
@@ -15,18 +16,22 @@ use Rattle.go_session.specs.Puts.{puts_of_command, puts_of}
 use Rattle.go_session.specs.Walk.{Replies, no_fronts, start, walked}
 use Rattle.go_session.proofs.CutWalks.{AgreesBelow, cut_holds}
 use Rattle.go_session.proofs.CutKeeps.{cut_keeps}
-use Rattle.go_run.specs.Ran.{world_of, HoldOver}
+use Rattle.go_run.specs.Course.{Course, world_of, GoesOnBy, HoldOver}
 
 -- the positions behind an old log
 abbrev pub behind : List Edge → List Edge → List ℕ
 behind old log = positions (length old) (length log - length old)
+
+-- a log that goes on behind an old one, with all positions behind that one session's own
+abbrev pub course_of : List Edge → List Edge → Course
+course_of old log = record { old = old; log = log; own = behind old log }
 
 -- the replies to the first commands are allowed over a log, which goes on behind the old one by what these commands put
 pub record IsCome (old log : List Edge) (commands : List Command) (replies : List Reply) : Type 0 where
   pub begins : take (length old) log ≡ old
   pub longer : length old ≤ length log
   pub put : drop (length old) log ≡ puts_of (take (length replies) commands)
-  pub allowed : Replies (world_of old (behind old log) log) (start (length old)) commands replies
+  pub allowed : Replies (world_of (course_of old log)) (start (length old)) commands replies
   pub used : (walked (length old) replies).used ≡ length log - length old
 
 -- a log has the first puts of a session where it has all of them
@@ -51,7 +56,8 @@ puts_of-split : (commands : List Command) (k : ℕ) → puts_of commands ≡ put
 puts_of-split commands k = ap puts_of (sym (take-append-drop k commands)) ∙ flat_map-append puts_of_command (take k commands) (drop k commands)
 
 -- a part of the log, from its beginning on
-take_part : (old log : List Edge) (count : ℕ) → take (length old) log ≡ old → length old ≤ count → take count log ≡ old ++ take (count - length old) (drop (length old) log)
+take_part : (old log : List Edge) (count : ℕ) → take (length old) log ≡ old → length old ≤ count →
+    take count log ≡ old ++ take (count - length old) (drop (length old) log)
 take_part old log count begins from =
     let whole : log ≡ old ++ drop (length old) log = sym (take-append-drop (length old) log) ∙ ap (λ (l : List Edge). l ++ drop (length old) log) begins in
     ap (take count) whole ∙ take_behind old (drop (length old) log) count from
@@ -64,7 +70,8 @@ take_part old log count begins from =
         ∙ ap (λ (m : ℕ). x ∷ (first ++ take m rest)) (let same : n - length first ≡ suc n - length (x ∷ first) = omega arith in same)
 
 -- the entries of each part of the log that has the old one lie behind that
-pub laid_come : (old log : List Edge) (commands : List Command) (replies : List Reply) (count : ℕ) → IsCome old log commands replies → length old ≤ count → count ≤ length log →
+pub laid_come : (old log : List Edge) (commands : List Command) (replies : List Reply) (count : ℕ) → IsCome old log commands replies → length old ≤ count →
+    count ≤ length log →
     Laid old (take count log) (positions (length old) (count - length old) ∷ []) (puts_of commands ∷ [])
 laid_come old log commands replies count come from within =
     let n = count - length old in
@@ -77,12 +84,14 @@ laid_come old log commands replies count come from within =
     ∙ sym (puts_of-split commands (length replies)) in
     let so_many : length part ≡ n = length-take-le n entries (omega (arith, within, length-drop (length old) log)) in
     let laid = Laid_more old part rest in
-    let one = subst (λ (l : List Edge). Laid old l (positions (length old) (length part) ∷ []) ((part ++ rest) ∷ [])) (sym (take_part old log count come.begins from)) laid in
+    let one = subst (λ (l : List Edge). Laid old l (positions (length old) (length part) ∷ []) ((part ++ rest) ∷ []))
+    (sym (take_part old log count come.begins from)) laid in
     let two = subst (λ (m : ℕ). Laid old (take count log) (positions (length old) m ∷ []) ((part ++ rest) ∷ [])) so_many one in
     subst (λ (l : List Edge). Laid old (take count log) (positions (length old) n ∷ []) (l ∷ [])) all two
 
 -- and so do those of all of it
-pub laid_all : (old log : List Edge) (commands : List Command) (replies : List Reply) → IsCome old log commands replies → Laid old log (behind old log ∷ []) (puts_of commands ∷ [])
+pub laid_all : (old log : List Edge) (commands : List Command) (replies : List Reply) → IsCome old log commands replies →
+    Laid old log (behind old log ∷ []) (puts_of commands ∷ [])
 laid_all old log commands replies come =
     subst (λ (l : List Edge). Laid old l (behind old log ∷ []) (puts_of commands ∷ [])) (take_all (length log) log (omega arith))
     (laid_come old log commands replies (length log) come come.longer (omega arith))
@@ -95,7 +104,8 @@ whole_come old log commands replies come all =
     (omega (arith, length-positions (length old) (length log - length old), length-drop (length old) log, ap length puts), tt)
 
 -- a position behind the old log, in a longer list of them and in a shorter one
-same_position : (first long short k p d : ℕ) → slice_get (positions first long) k ≡ Some p → p < d → d ≤ first + short → slice_get (positions first short) k ≡ Some p
+same_position : (first long short k p d : ℕ) → slice_get (positions first long) k ≡ Some p → p < d → d ≤ first + short →
+    slice_get (positions first short) k ≡ Some p
 same_position first long short k p d here below within =
     let inside : k < long = omega (arith, slice_get_within (positions first long) k p here, length-positions first long) in
     let is : Some (first + k) ≡ Some p = sym (slice_get-positions first long k inside) ∙ here in
@@ -103,24 +113,35 @@ same_position first long short k p d here below within =
     slice_get-positions first short k (omega (arith, same, below, within)) ∙ is
 
 -- the replies that rest on durable entries are allowed over each part of the log that has these
-pub hold_come : (old log : List Edge) (commands : List Command) (replies : List Reply) (durable count : ℕ) → IsCome old log commands replies → length old ≤ durable →
+pub hold_come : (old log : List Edge) (commands : List Command) (replies : List Reply) (durable count : ℕ) → IsCome old log commands replies →
+    length old ≤ durable →
     durable ≤ count → count ≤ length log → HoldOver commands (cut_from durable no_fronts commands replies) old (take count log)
 hold_come old log commands replies durable count come least from within =
     let own = positions (length old) (count - length old) in
-    let agrees : AgreesBelow durable (world_of old (behind old log) log) (world_of old own (take count log)) = record {
+    let agrees : AgreesBelow durable (world_of (course_of old log)) (world_of (record { old = old; log = take count log; own = own })) = record {
       same_first = refl;
       enough = omega (arith, from, length-take-le count log within);
       same_log = take-take durable count log from;
-      same_own = λ k p here below. same_position (length old) (length log - length old) (count - length old) k p durable here below (omega (arith, least, from));
+      same_own = λ k p here below. same_position (length old) (length log - length old) (count - length old) k p durable here below (omega (
+        arith,
+        least,
+        from,
+      ));
     } in
     record {
       own = own;
       laid = laid_come old log commands replies count come (omega (arith, least, from)) within;
-      allowed = cut_holds durable (world_of old (behind old log) log) (world_of old own (take count log)) commands replies agrees come.allowed;
+      allowed = cut_holds durable (world_of (course_of old log)) (world_of (record {
+        old = old;
+        log = take count log;
+        own =
+            own;
+      })) commands replies agrees come.allowed;
     }
 
 -- each durable entry behind the old log is one that these replies show
-pub none_held_back : (old log : List Edge) (commands : List Command) (replies : List Reply) (durable : ℕ) → IsCome old log commands replies → durable ≤ length log →
+pub none_held_back : (old log : List Edge) (commands : List Command) (replies : List Reply) (durable : ℕ) → IsCome old log commands replies →
+    durable ≤ length log →
     durable ≤ length old + (walked (length old) (cut_from durable no_fronts commands replies)).used
 none_held_back old log commands replies durable come most =
     let first = length old in
@@ -130,5 +151,6 @@ none_held_back old log commands replies durable come most =
       | inr h ↦
           let there = slice_get-positions first (length log - first) used (omega (arith, h.1, most)) in
           let all : length (behind old log) ≤ (walked first replies).used = omega (arith, come.used, length-positions first (length log - first)) in
-          cut_keeps durable (world_of old (behind old log) log) commands replies (positions_rise first (length log - first)) all come.allowed used (first + used) (omega arith) there
+          cut_keeps durable (world_of (course_of old log)) commands replies (positions_rise first (length log - first)) all come.allowed used
+          (first + used) (omega arith) there
     ]

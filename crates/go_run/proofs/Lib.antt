@@ -7,3 +7,8 @@ mod RunningLemmas
 mod StepLemmas
 mod RunLemmas
 mod CompleteLemmas
+mod CauseLemmas
+mod SetupLemmas
+mod WordLemmas
+mod FoundLemmas
+mod AskedLemmas

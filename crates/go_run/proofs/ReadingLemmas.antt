@@ -9,10 +9,11 @@ use Rattle.go_script.specs.declared.step.Step.{Step}
 use Rattle.go_script.specs.Grammar.{Reads as ReadsScript}
 use Rattle.go_script.specs.Places.{commands_of}
 use Rattle.go_run.specs.Input.{Texts, asked_by, count_of, within_limit, script_under}
-use Rattle.go_run.specs.Reading.{IsOrMemory, ReadsUnder, ReadsText, Reads}
+use Rattle.go_run.specs.Reading.{IsOrMemory, ReadsUnder, ReadsText, ReadsScriptOf}
 use Rattle.go_run.specs.declared.status.Status.{Status}
 use Rattle.go_run.specs.declared.status.Status.TheVariants.{NoFile, TooMuch, ReadFault, Memory}
-use Rattle.go_run.specs.declared.limits.TheConstants.{SCRIPT_BYTES, LOG_ENTRIES}
+use Rattle.go_api.specs.declared.limits.TheConstants.{LOG_ENTRIES}
+use Rattle.go_run.specs.declared.limits.TheConstants.{SCRIPT_BYTES}
 
 -- a status that tells a missing name, or want of memory
 refused_missing : (v : ℕ) (name : List ℕ) (status : Status) → IsOrMemory (NoFile name) status → ReadsUnder v name None (Err status)
@@ -22,7 +23,8 @@ refused_missing v name status this = elim this [
 ]
 
 -- a text over the limit is refused
-refused_long : (v : ℕ) (name : List ℕ) (text : Option (List ℕ)) → IsTooLong text SCRIPT_BYTES → ReadsUnder v name text (Err (TooMuch (SCRIPT_BYTES + 1) SCRIPT_BYTES))
+refused_long : (v : ℕ) (name : List ℕ) (text : Option (List ℕ)) → IsTooLong text SCRIPT_BYTES →
+    ReadsUnder v name text (Err (TooMuch (SCRIPT_BYTES + 1) SCRIPT_BYTES))
 refused_long v name None long = absurd long
 refused_long v name (Some bytes) long =
     elim (leb_tells (suc SCRIPT_BYTES) (length bytes)) [
@@ -32,24 +34,30 @@ refused_long v name (Some bytes) long =
 
 -- a text that was fetched whole and read
 pub reads_whole : (v : ℕ) (shelf : Option Texts) (name out : List ℕ) (limit : ℕ) (result : Result (List Step) Status) →
-    Fetches shelf name limit out Whole → ReadsText v name out result → Reads v shelf name result
+    Fetches shelf name limit out Whole → ReadsText v name out result → ReadsScriptOf v shelf name result
 reads_whole v None name out limit result fetched read = record { texts = λ other. Some out; may_hold = tt; read = read.0 }
 reads_whole v (Some told) name out limit result fetched read =
     record { texts = told; may_hold = refl; read = rw fetched.0 read.0 }
 
 -- a name without a text
 pub reads_missing : (v : ℕ) (shelf : Option Texts) (name out : List ℕ) (limit : ℕ) (status : Status) →
-    Fetches shelf name limit out Missing → IsOrMemory (NoFile name) status → Reads v shelf name (Err status)
+    Fetches shelf name limit out Missing → IsOrMemory (NoFile name) status → ReadsScriptOf v shelf name (Err status)
 reads_missing v None name out limit status fetched this = record { texts = λ other. None; may_hold = tt; read = refused_missing v name status this }
 reads_missing v (Some told) name out limit status fetched this =
-    record { texts = told; may_hold = refl; read = subst (λ (t : Option (List ℕ)). ReadsUnder v name t (Err status)) (sym fetched) (refused_missing v name status this) }
+    record {
+      texts = told;
+      may_hold = refl;
+      read = subst (λ (t : Option (List ℕ)). ReadsUnder v name t (Err status)) (sym fetched)
+          (refused_missing v name status this);
+    }
 
 -- some text is over a limit
 long_text : (limit : ℕ) → (text : List ℕ) × (limit < length text)
 long_text limit = (replicate (limit + 1) 0, rw (length-replicate {A = ℕ} (limit + 1) 0) (omega arith))
 
 -- a text over the limit
-pub reads_too_long : (v : ℕ) (shelf : Option Texts) (name out : List ℕ) → Fetches shelf name SCRIPT_BYTES out TooLong → Reads v shelf name (Err (TooMuch (SCRIPT_BYTES + 1) SCRIPT_BYTES))
+pub reads_too_long : (v : ℕ) (shelf : Option Texts) (name out : List ℕ) → Fetches shelf name SCRIPT_BYTES out TooLong →
+    ReadsScriptOf v shelf name (Err (TooMuch (SCRIPT_BYTES + 1) SCRIPT_BYTES))
 reads_too_long v None name out fetched =
     let long = long_text SCRIPT_BYTES in
     record { texts = λ other. Some long.0; may_hold = tt; read = refused_long v name (Some long.0) long.1 }
@@ -63,12 +71,13 @@ refused_failed v name text status this = elim this [
 ]
 
 -- a fault of the shelf
-pub reads_failed : (v : ℕ) (shelf : Option Texts) (name : List ℕ) (status : Status) → IsOrMemory (ReadFault name) status → Reads v shelf name (Err status)
+pub reads_failed : (v : ℕ) (shelf : Option Texts) (name : List ℕ) (status : Status) → IsOrMemory (ReadFault name) status →
+    ReadsScriptOf v shelf name (Err status)
 reads_failed v None name status this = record { texts = λ other. None; may_hold = tt; read = refused_failed v name None status this }
 reads_failed v (Some told) name status this = record { texts = told; may_hold = refl; read = refused_failed v name (told name) status this }
 
 -- want of memory
-pub reads_memory : (v : ℕ) (shelf : Option Texts) (name : List ℕ) → Reads v shelf name (Err Memory)
+pub reads_memory : (v : ℕ) (shelf : Option Texts) (name : List ℕ) → ReadsScriptOf v shelf name (Err Memory)
 reads_memory v shelf name = reads_failed v shelf name Memory (inr refl)
 
 -- what the text of a name asks for, where it is short enough and read as a script
@@ -89,11 +98,16 @@ too_many_puts commands status is =
     ]
 
 -- a text that was read as a script, whose puts were then counted
-pub reads_counted : (v : ℕ) (name text : List ℕ) (steps : List Step) (result : Result (List Step) Status) → ReadsScript v text (Ok steps) → length text ≤ SCRIPT_BYTES →
+pub reads_counted : (v : ℕ) (name text : List ℕ) (steps : List Step) (result : Result (List Step) Status) → ReadsScript v text (Ok steps) →
+    length text ≤ SCRIPT_BYTES →
     asked_by result ≡ within_limit (commands_of steps) → ReadsText v name text result
 reads_counted v name text steps (Ok kept) read fits counted = (under_text v name text steps read fits ∙ sym counted, tt)
 reads_counted v name text steps (Err status) read fits counted =
     let same = too_many_puts (commands_of steps) status counted in
     let under : script_under v name (Some text) ≡ Err (TooMuch (count_of (commands_of steps)) LOG_ENTRIES) =
     subst (λ (s : Status). script_under v name (Some text) ≡ Err s) same (under_text v name text steps read fits ∙ sym counted) in
-    subst (λ (s : Status). ReadsText v name text (Err s)) (sym same) (under, λ told. let other : TooMuch (count_of (commands_of steps)) LOG_ENTRIES ≡ ReadFault name = told in cc)
+    subst (λ (s : Status). ReadsText v name text (Err s)) (sym same) (
+      under,
+      λ told. let other : TooMuch (count_of (commands_of steps)) LOG_ENTRIES
+          ≡ ReadFault name = told in cc,
+    )

@@ -9,7 +9,8 @@ use Rattle.go_script.specs.Places.{commands_of}
 use Rattle.go_session.specs.Puts.{puts_of}
 use Rattle.go_run.specs.declared.status.Status.{Status}
 use Rattle.go_run.specs.declared.status.Status.TheVariants.{Words, Script, NoFile, TooMuch, Memory}
-use Rattle.go_run.specs.declared.limits.TheConstants.{SCRIPT_BYTES, LOG_ENTRIES}
+use Rattle.go_api.specs.declared.limits.TheConstants.{LOG_ENTRIES}
+use Rattle.go_run.specs.declared.limits.TheConstants.{SCRIPT_BYTES}
 
 -- which bytes stand under which name
 abbrev pub Texts : Type 0

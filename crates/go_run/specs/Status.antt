@@ -5,7 +5,8 @@ use Rattle.go_text.specs.declared.faults.FaultKind.{FaultKind}
 use Rattle.go_blocks.specs.declared.fault.BadKind.{BadKind}
 use Rattle.go_blocks.specs.declared.fault.BadKind.TheVariants as bad
 use Rattle.go_run.specs.declared.status.Status.{Status}
-use Rattle.go_run.specs.declared.status.Status.TheVariants.{Done, Words, Script, NoFile, TooMuch, ReadFault, NotALog, OtherVertices, DiskFault, WriteFault, Memory}
+use Rattle.go_run.specs.declared.status.Status.TheVariants.{Done, Words, Script, NoFile, TooMuch, ReadFault, NotALog, OtherVertices, DiskFault, WriteFault}
+use Rattle.go_run.specs.declared.status.Status.TheVariants.{Memory}
 
 -- the exit status of the process
 abbrev pub number_of : Status → ℕ

@@ -3,8 +3,9 @@ ghost use Rattle.go_plain.specs.Plain.{standing_of};
 ghost use Rattle.go_session.specs.Session.{CanGoOn};
 ghost use Rattle.go_run.specs.Driving.{HasCome, HasDriven};
 
-use go_api::{Finished, Stop, Store};
+use go_api::{Stop, Store};
 use go_disk::Disk;
+use go_durable::Finished;
 use go_io::Gate;
 use go_plain::PlainStore;
 use go_session::{Session, Step};
@@ -20,7 +21,7 @@ pub struct Driven<D> {
 /// Steps a session over a store until it has answered all or the store stops, and then ends the store.
 pub fn drive<D: Disk, G: Gate>(session: Session, store: PlainStore<D>, gate: &G) -> Driven<D>
     requires { CanGoOn session (standing_of store) }
-    ensures { HasDriven D.seen D.images D.clock D.since D.faults session store result.session result.stop result.finished }
+    ensures { HasDriven D.device session store result.session result.stop result.finished }
 {
     let mut session = session;
     let mut handle = store.session(1);

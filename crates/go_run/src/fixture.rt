@@ -82,11 +82,29 @@ pub(crate) fn run_over<R: Threads + Wait + Sync>(
     rt: &R,
     alloc: Global,
     words: &[&str],
+    shelf: MemShelf,
+    sink: MemSink,
+) -> Result<Ended, AllocError> {
+    run_from(
+        rt,
+        alloc,
+        words,
+        shelf,
+        sink,
+        MemDisk::new(alloc, b"", 4096)?,
+    )
+}
+
+// The same on this disk.
+pub(crate) fn run_from<R: Threads + Wait + Sync>(
+    rt: &R,
+    alloc: Global,
+    words: &[&str],
     mut shelf: MemShelf,
     mut sink: MemSink,
+    disk: MemDisk,
 ) -> Result<Ended, AllocError> {
     let words = words_of(alloc, words)?;
-    let disk = MemDisk::new(alloc, b"", 4096)?;
     let outcome = run(rt, alloc, &words, &mut shelf, &mut sink, disk, &NoGate);
     Ended::of(alloc, outcome, sink)
 }

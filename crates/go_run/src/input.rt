@@ -3,11 +3,13 @@ ghost use Rattle.std.specs.Prelude.{◌≡◌, ℕ, ◌≤◌, List, length, IfO
 ghost use Rattle.go_text.specs.Causes.{Rose};
 ghost use Rattle.go_script.specs.Places.{IsWithin, commands_of};
 ghost use Rattle.go_run.specs.Input.{asked_by, count_of, within_limit};
-ghost use Rattle.go_run.specs.Reading.{Reads, ReadsText, IsOrMemory};
-ghost use Rattle.go_run.specs.declared.limits.TheConstants.{SCRIPT_BYTES, LOG_ENTRIES};
+ghost use Rattle.go_run.specs.Reading.{ReadsScriptOf, ReadsText, IsOrMemory};
+ghost use Rattle.go_api.specs.declared.limits.TheConstants.{LOG_ENTRIES};
+ghost use Rattle.go_run.specs.declared.limits.TheConstants.{SCRIPT_BYTES};
 
-use crate::limits::{LOG_ENTRIES, SCRIPT_BYTES};
+use crate::limits::SCRIPT_BYTES;
 use crate::status::Status;
+use go_api::LOG_ENTRIES;
 use go_io::{Fetched, Shelf};
 use go_script::{Script, ScriptFault, parse};
 use go_session::entries_in;
@@ -21,7 +23,7 @@ pub fn read_script<H: Shelf>(
     name: &Text,
     shelf: &mut H,
 ) -> Result<Script, Status>
-    ensures read { Reads vertices (H.texts shelf.old) name.now result }
+    ensures read { ReadsScriptOf vertices (H.texts shelf.old) name.now result }
     ensures vertices { IfOk result (λ script. IsWithin vertices (commands_of script)) }
     ensures few { IfOk result (λ script. count_of (commands_of script) ≤ LOG_ENTRIES) }
     ensures same { H.texts shelf.new ≡ H.texts shelf.old }

@@ -7,31 +7,39 @@
 //! script puts, the replies to all commands are those that the walk of go_session allows over it, the sink took just their text,
 //! and the disk has a file of it. At each moment a crash leaves a part of the log that has the old one. Each refusal comes exactly
 //! where the input or the bytes on the disk ask for it. Faults are told only where the counts rose. `message` gives the line that
-//! tells a status.
+//! tells a status, and `log_name` the name of the log file that the words ask for.
 //! Left out: other sessions and threads, and all that the real folder, output and file do.
 //! docs/SCRIPT.md has the commands and the error lines, docs/DEFINITIONS.md the definitions, docs/CRASH.md what a crash leaves.
 #![tactic(auto)]
 
 mod driving;
 mod error_line;
+mod found;
 mod input;
 mod limits;
 mod outcome;
 mod output;
 mod running;
+mod setting;
 mod status;
 mod top;
+mod wanted;
 mod words;
 
 pub use error_line::message;
-pub use limits::{LOG_ENTRIES, RING, SCRIPT_BYTES, SHARDS, VERTICES};
+pub use limits::{LOG_FILE, RING, SCRIPT_BYTES, SHARDS, VERTICES};
 pub use outcome::Outcome;
 pub use status::Status;
 pub use top::{run, run_with};
+pub use words::log_name;
 
+#[cfg(test)]
+mod block_tests;
 #[cfg(test)]
 mod disk_tests;
 #[cfg(test)]
 mod fixture;
 #[cfg(test)]
 mod tests;
+#[cfg(test)]
+mod word_tests;

@@ -9,8 +9,8 @@ pub const RING: u64 = 65536;
 /// How many shards the vertices are divided among where nothing else is asked for.
 pub const SHARDS: u32 = 8;
 
+/// The name of the log file where no other is asked for.
+pub const LOG_FILE: &str = "graph.log";
+
 /// How many bytes a script may have.
 pub const SCRIPT_BYTES: u64 = 1 << 26;
-
-/// How many entries the log may have that was opened and those that the script puts.
-pub const LOG_ENTRIES: u64 = 1 << 26;

@@ -10,9 +10,9 @@ use std::alloc::{AllocError, Global};
 
 /// Puts all replies into the sink, in one piece.
 pub fn print_all<K: Sink>(alloc: Global, session: &Session, sink: &mut K) -> Status
-    ensures prints { PrintsAll session.now (K.taken sink.old) (K.taken sink.new) result }
-    ensures later { K.faults sink.old ≤ K.faults sink.new }
-    ensures fault { result ≡ Status.WriteFault → Rose (K.faults sink.old) (K.faults sink.new) }
+    ensures prints { PrintsAll session.now (K.stands sink.old) (K.stands sink.new) result }
+    ensures later { (K.stands sink.old).faults ≤ (K.stands sink.new).faults }
+    ensures fault { result ≡ Status.WriteFault → Rose (K.stands sink.old).faults (K.stands sink.new).faults }
 {
     let Ok(text) = text_shown(alloc, session, None) else {
         return Status::Memory;
@@ -26,8 +26,8 @@ pub fn print_all<K: Sink>(alloc: Global, session: &Session, sink: &mut K) -> Sta
 /// After a fault of the disk, puts the replies into the sink that rest on durable entries alone. The status is that of
 /// the disk, whether the sink takes them or not.
 pub fn print_cut<K: Sink>(alloc: Global, session: &Session, durable: u64, sink: &mut K) -> Status
-    ensures prints { PrintsCut session.now durable (K.taken sink.old) (K.taken sink.new) (K.faults sink.old) (K.faults sink.new) result }
-    ensures later { K.faults sink.old ≤ K.faults sink.new }
+    ensures prints { PrintsCut session.now durable (K.stands sink.old) (K.stands sink.new) result }
+    ensures later { (K.stands sink.old).faults ≤ (K.stands sink.new).faults }
 {
     let Ok(text) = text_shown(alloc, session, Some(durable)) else {
         return Status::Memory;

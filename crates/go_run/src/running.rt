@@ -6,17 +6,17 @@ ghost use Rattle.go_durable.specs.Attaching.{disk_of};
 ghost use Rattle.go_script.specs.Places.{IsWithin, commands_of};
 ghost use Rattle.go_run.specs.Input.{count_of};
 ghost use Rattle.go_run.specs.Driving.{Concludes, refusal_of, CountFits};
-ghost use Rattle.go_run.specs.Ran.{RanCommands, IsRightDisk, IsDoneOrMemory};
-ghost use Rattle.go_run.specs.declared.limits.TheConstants.{LOG_ENTRIES};
+ghost use Rattle.go_run.specs.Ran.{RanCommands};
+ghost use Rattle.go_run.specs.Run.{run_over};
+ghost use Rattle.go_api.specs.declared.limits.TheConstants.{LOG_ENTRIES};
 
 use crate::driving::{Driven, drive};
-use crate::limits::LOG_ENTRIES;
 use crate::outcome::Outcome;
 use crate::output::{print_all, print_cut};
 use crate::status::Status;
-use go_api::{Finished, Setup, Stop};
+use go_api::{LOG_ENTRIES, Setup, Stop};
 use go_disk::Disk;
-use go_durable::{FILE_LIMIT, OpenFault, attach};
+use go_durable::{FILE_LIMIT, Finished, OpenFault, attach};
 use go_io::{Gate, Sink};
 use go_plain::PlainStore;
 use go_script::Script;
@@ -37,13 +37,12 @@ pub fn run_commands<K: Sink, D: Disk, G: Gate>(
     requires within { IsWithin setup.vertices (commands_of script) }
     requires few { count_of (commands_of script) ≤ LOG_ENTRIES }
 
-    ensures ran { RanCommands D.seen D.base D.images D.clock D.since setup.vertices (commands_of script)
-        (K.taken sink.old) (K.taken sink.new) (K.faults sink.old) (K.faults sink.new) disk result.disk result.status }
-
-    ensures sink_later { K.faults sink.old ≤ K.faults sink.new }
-    ensures write_fault { result.status ≡ Status.WriteFault → Rose (K.faults sink.old) (K.faults sink.new) }
-    ensures disk_later { D.faults disk ≤ D.faults result.disk }
-    ensures disk_fault { result.status ≡ Status.DiskFault → Rose (D.faults disk) (D.faults result.disk) }
+    ensures ran { RanCommands (run_over D.device setup.vertices disk (K.stands sink.old)) (commands_of script) (K.stands sink.new) result.disk result.status }
+    ensures sink_later { (K.stands sink.old).faults ≤ (K.stands sink.new).faults }
+    ensures write_fault { result.status ≡ Status.WriteFault → Rose (K.stands sink.old).faults (K.stands sink.new).faults }
+    ensures disk_later { D.device.faults disk ≤ D.device.faults result.disk }
+    ensures disk_fault { result.status ≡ Status.DiskFault → Rose (D.device.faults disk) (D.device.faults result.disk) }
+    ensures no_blunder { D.device.blunders result.disk ≡ D.device.blunders disk }
 {
     let Ok(session) = Session::new(alloc, 1, script) else {
         return Outcome {
@@ -112,10 +111,10 @@ fn refused<D>(fault: OpenFault<D>, asked: u32, puts: u64) -> Outcome<D>
 // store's end, which can't bring a log up to date on a disk that failed.
 fn conclude<K: Sink, D>(alloc: Global, driven: Driven<D>, sink: &mut K) -> Outcome<D>
     ensures concludes { Concludes driven.stop driven.finished.stop driven.session driven.finished.durable
-        (K.taken sink.old) (K.taken sink.new) (K.faults sink.old) (K.faults sink.new) result.status }
+        (K.stands sink.old) (K.stands sink.new) result.status }
     ensures disk { result.disk ≡ driven.finished.disk }
-    ensures later { K.faults sink.old ≤ K.faults sink.new }
-    ensures write_fault { result.status ≡ Status.WriteFault → Rose (K.faults sink.old) (K.faults sink.new) }
+    ensures later { (K.stands sink.old).faults ≤ (K.stands sink.new).faults }
+    ensures write_fault { result.status ≡ Status.WriteFault → Rose (K.stands sink.old).faults (K.stands sink.new).faults }
 {
     let Driven {
         session,

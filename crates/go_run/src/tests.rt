@@ -1,8 +1,9 @@
 // Whole runs over a shelf and a sink in memory, at rows that were worked out by hand.
 
-use crate::fixture::{outcome_of, run_over, shelf_with};
-use crate::{Status, message};
-use go_io::MemSink;
+use crate::fixture::{SCRIPT, outcome_of, run_over, shelf_with, words_of};
+use crate::{Status, message, run};
+use go_disk::MemDisk;
+use go_io::{CountingGate, MemSink};
 use std::test::Fail;
 
 #[test]
@@ -68,31 +69,6 @@ fn first_fault_of_a_script_is_told(rt: HostRuntime) -> Result<(), Fail> {
         let outcome = outcome_of(&rt, rt.alloc(), script)?;
         assert_eq!(rt; outcome.number, 2);
         assert_eq!(rt; outcome.line.as_slice(), want);
-        assert_eq!(rt; outcome.sink.bytes(), b"".as_slice());
-    }
-    Ok(())
-}
-
-#[test]
-fn other_words_are_refused(rt: HostRuntime) -> Result<(), Fail> {
-    let cases: [&[&str]; 7] = [
-        &[],
-        &["drive"],
-        &["drive", "-a.gs"],
-        &["drive", "-"],
-        &["fly", "a.gs"],
-        &["drive", "a.gs", "a.gs"],
-        &["a.gs", "drive"],
-    ];
-    let alloc = rt.alloc();
-    for words in cases {
-        let shelf = shelf_with(alloc, b"")?;
-        let outcome = run_over(&rt, rt.alloc(), words, shelf, MemSink::new(alloc, 9, 99)?)?;
-        assert_eq!(rt; outcome.number, 1);
-        assert_eq!(rt;
-            outcome.line.as_slice(),
-            b"graphone: bad arguments\n".as_slice()
-        );
         assert_eq!(rt; outcome.sink.bytes(), b"".as_slice());
     }
     Ok(())
@@ -166,6 +142,21 @@ fn sink_gets_all_or_the_first_bytes(rt: HostRuntime) -> Result<(), Fail> {
         assert_eq!(rt; outcome.number, number);
         assert_eq!(rt; outcome.sink.bytes(), want);
     }
+    Ok(())
+}
+
+// The gate is where a test holds a session back: no clause says that it is passed.
+#[test]
+fn each_command_passes_the_gate_once(rt: HostRuntime) -> Result<(), Fail> {
+    let alloc = rt.alloc();
+    let gate = CountingGate::new();
+    let words = words_of(alloc, &["drive", "a.gs"])?;
+    let mut shelf = shelf_with(alloc, SCRIPT)?;
+    let mut sink = MemSink::new(alloc, 4096, 4096)?;
+    let disk = MemDisk::new(alloc, b"", 4096)?;
+    let outcome = run(&rt, alloc, &words, &mut shelf, &mut sink, disk, &gate);
+    assert_eq!(rt; outcome.status.number(), 0);
+    assert_eq!(rt; (gate.tries(), gate.last(), gate.turns()), (3, (1, 2), 0));
     Ok(())
 }
 

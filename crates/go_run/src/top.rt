@@ -1,17 +1,16 @@
 // The top call: all that the program does, over the outside that is handed in.
-ghost use Rattle.std.specs.Prelude.{◌≡◌, ◌≤◌, ℕ, List, [], Some, length, get_or};
-ghost use Rattle.go_text.specs.Causes.{Rose};
+ghost use Rattle.std.specs.Prelude.{◌≡◌, [], Some, length, get_or};
 ghost use Rattle.go_api.specs.Limits.{IsSetup};
-ghost use Rattle.go_run.specs.Words.{file_of};
-ghost use Rattle.go_run.specs.Ran.{Ran, IsRight, IsDoneOrMemory};
-ghost use Rattle.go_run.specs.declared.limits.TheConstants.{VERTICES};
+ghost use Rattle.go_run.specs.Words.{OverAsked, vertices_asked, file_asked};
+ghost use Rattle.go_run.specs.Ran.{Ran};
+ghost use Rattle.go_run.specs.Causes.{Causes};
+ghost use Rattle.go_run.specs.Run.{run_over, shelf_with};
 
 use crate::input::read_script;
-use crate::limits::{RING, SHARDS, VERTICES};
 use crate::outcome::Outcome;
 use crate::running::run_commands;
 use crate::status::Status;
-use crate::words::script_name;
+use crate::words::read_words;
 use go_api::Setup;
 use go_disk::Disk;
 use go_io::{Gate, Shelf, Sink};
@@ -35,31 +34,19 @@ pub fn run<R: Threads + Wait + Sync, H: Shelf, K: Sink, D: Disk + Send, G: Gate 
     disk: D,
     gate: &G,
 ) -> Outcome<D>
-    ensures ran { Ran D.seen D.base D.images D.clock D.since VERTICES (file_of words.now) (H.texts shelf.old)
-        (K.taken sink.old) (K.taken sink.new) (K.faults sink.old) (K.faults sink.new) disk result.disk result.status }
-    ensures read_fault { (name : List ℕ) → result.status ≡ Status.ReadFault name → Rose (H.faults shelf.old name) (H.faults shelf.new name) }
-    ensures disk_fault { result.status ≡ Status.DiskFault → Rose (D.faults disk) (D.faults result.disk) }
-    ensures write_fault { result.status ≡ Status.WriteFault → Rose (K.faults sink.old) (K.faults sink.new) }
-    ensures complete { IsRight VERTICES (file_of words.now) (H.texts shelf.old) (D.seen disk) →
-        ((name : List ℕ) → ¬ Rose (H.faults shelf.old name) (H.faults shelf.new name)) →
-        ¬ Rose (D.faults disk) (D.faults result.disk) → ¬ Rose (K.faults sink.old) (K.faults sink.new) → IsDoneOrMemory result.status }
-    ensures shelf { H.texts shelf.new ≡ H.texts shelf.old }
-    ensures shelf_later { (name : List ℕ) → H.faults shelf.old name ≤ H.faults shelf.new name }
-    ensures sink_later { K.faults sink.old ≤ K.faults sink.new }
-    ensures disk_later { D.faults disk ≤ D.faults result.disk }
+    ensures ran { OverAsked words.now (λ asked. Ran (run_over D.device (vertices_asked asked) disk (K.stands sink.old)) (file_asked asked)
+        (H.texts shelf.old) (K.stands sink.new) result.disk result.status) }
+    ensures causes { OverAsked words.now (λ asked. Causes (run_over D.device (vertices_asked asked) disk (K.stands sink.old)) (file_asked asked)
+        (shelf_with (H.texts shelf.old) (H.faults shelf.old)) (shelf_with (H.texts shelf.new) (H.faults shelf.new))
+        (K.stands sink.new) result.disk result.status) }
 {
-    let Some(name) = script_name(words) else {
-        return Outcome {
+    match read_words(words) {
+        Some(wanted) => run_named(alloc, wanted.setup, wanted.file, shelf, sink, disk, gate),
+        None => Outcome {
             status: Status::Words,
             disk,
-        };
-    };
-    let setup = Setup {
-        vertices: VERTICES,
-        ring: RING,
-        shards: SHARDS,
-    };
-    run_named(alloc, setup, name, shelf, sink, disk, gate)
+        },
+    }
 }
 
 /// The same for a script's name and a store of other numbers.
@@ -76,18 +63,11 @@ pub fn run_with<R: Threads + Wait + Sync, H: Shelf, K: Sink, D: Disk + Send, G: 
     requires setup { IsSetup setup }
     requires one_script { length names.now ≡ 1 }
 
-    ensures ran { Ran D.seen D.base D.images D.clock D.since setup.vertices (Some (get_or names.now 0 [])) (H.texts shelf.old)
-        (K.taken sink.old) (K.taken sink.new) (K.faults sink.old) (K.faults sink.new) disk result.disk result.status }
-    ensures read_fault { (name : List ℕ) → result.status ≡ Status.ReadFault name → Rose (H.faults shelf.old name) (H.faults shelf.new name) }
-    ensures disk_fault { result.status ≡ Status.DiskFault → Rose (D.faults disk) (D.faults result.disk) }
-    ensures write_fault { result.status ≡ Status.WriteFault → Rose (K.faults sink.old) (K.faults sink.new) }
-    ensures complete { IsRight setup.vertices (Some (get_or names.now 0 [])) (H.texts shelf.old) (D.seen disk) →
-        ((name : List ℕ) → ¬ Rose (H.faults shelf.old name) (H.faults shelf.new name)) →
-        ¬ Rose (D.faults disk) (D.faults result.disk) → ¬ Rose (K.faults sink.old) (K.faults sink.new) → IsDoneOrMemory result.status }
-    ensures shelf { H.texts shelf.new ≡ H.texts shelf.old }
-    ensures shelf_later { (name : List ℕ) → H.faults shelf.old name ≤ H.faults shelf.new name }
-    ensures sink_later { K.faults sink.old ≤ K.faults sink.new }
-    ensures disk_later { D.faults disk ≤ D.faults result.disk }
+    ensures ran { Ran (run_over D.device setup.vertices disk (K.stands sink.old)) (Some (get_or names.now 0 []))
+        (H.texts shelf.old) (K.stands sink.new) result.disk result.status }
+    ensures causes { Causes (run_over D.device setup.vertices disk (K.stands sink.old)) (Some (get_or names.now 0 []))
+        (shelf_with (H.texts shelf.old) (H.faults shelf.old)) (shelf_with (H.texts shelf.new) (H.faults shelf.new))
+        (K.stands sink.new) result.disk result.status }
 {
     run_named(alloc, setup, &names[0], shelf, sink, disk, gate)
 }
@@ -103,18 +83,11 @@ fn run_named<H: Shelf, K: Sink, D: Disk, G: Gate>(
     gate: &G,
 ) -> Outcome<D>
     requires { IsSetup setup }
-    ensures ran { Ran D.seen D.base D.images D.clock D.since setup.vertices (Some name.now) (H.texts shelf.old)
-        (K.taken sink.old) (K.taken sink.new) (K.faults sink.old) (K.faults sink.new) disk result.disk result.status }
-    ensures read_fault { (other : List ℕ) → result.status ≡ Status.ReadFault other → Rose (H.faults shelf.old other) (H.faults shelf.new other) }
-    ensures disk_fault { result.status ≡ Status.DiskFault → Rose (D.faults disk) (D.faults result.disk) }
-    ensures write_fault { result.status ≡ Status.WriteFault → Rose (K.faults sink.old) (K.faults sink.new) }
-    ensures complete { IsRight setup.vertices (Some name.now) (H.texts shelf.old) (D.seen disk) →
-        ((other : List ℕ) → ¬ Rose (H.faults shelf.old other) (H.faults shelf.new other)) →
-        ¬ Rose (D.faults disk) (D.faults result.disk) → ¬ Rose (K.faults sink.old) (K.faults sink.new) → IsDoneOrMemory result.status }
-    ensures shelf { H.texts shelf.new ≡ H.texts shelf.old }
-    ensures shelf_later { (other : List ℕ) → H.faults shelf.old other ≤ H.faults shelf.new other }
-    ensures sink_later { K.faults sink.old ≤ K.faults sink.new }
-    ensures disk_later { D.faults disk ≤ D.faults result.disk }
+    ensures ran { Ran (run_over D.device setup.vertices disk (K.stands sink.old)) (Some name.now)
+        (H.texts shelf.old) (K.stands sink.new) result.disk result.status }
+    ensures causes { Causes (run_over D.device setup.vertices disk (K.stands sink.old)) (Some name.now)
+        (shelf_with (H.texts shelf.old) (H.faults shelf.old)) (shelf_with (H.texts shelf.new) (H.faults shelf.new))
+        (K.stands sink.new) result.disk result.status }
 {
     match read_script(alloc, setup.vertices, name, shelf) {
         Ok(script) => run_commands(alloc, setup, script, sink, disk, gate),

@@ -1,30 +1,72 @@
-// The words of the command line.
-ghost use Rattle.std.specs.Prelude.{◌≡◌, map};
-ghost use Rattle.std.specs.Option.{option_copied};
-ghost use Rattle.go_run.specs.Words.{is_drive, is_file, file_of};
+// Reading the words of the command line.
+ghost use Rattle.std.specs.Prelude.{◌≡◌, ◌∷◌, ◌<◌, ◌^◌, length, IfSome, IfOk};
+ghost use Rattle.go_api.specs.Limits.{IsSetup};
+ghost use Rattle.go_run.specs.Words.{IsAskedBy, OverAsked, log_asked};
+ghost use Rattle.go_run.specs.Found.{kept_of, kept_in, nothing_kept, Reads, StepsOver, asked_in};
 
+use crate::found::Found;
+use crate::setting::{Word, word_of};
+use crate::wanted::{Wanted, wanted_by};
 use go_text::Text;
+use std::alloc::{AllocError, Global};
 
-/// The name of the script, where the words are `drive` and a word that doesn't begin with a dash.
-pub fn script_name(words: &[Text]) -> Option<&Text>
-    ensures { option_copied result ≡ file_of words.now }
+/// The name of the log file that the words of the command line, without the program's name, ask for; `None` exactly where they
+/// are no words of the program.
+pub fn log_name(alloc: Global, words: &[Text]) -> Result<Option<Text>, AllocError>
+    ensures { IfOk result (λ name. OverAsked words.now (λ asked. name ≡ log_asked asked)) }
+{
+    match read_words(words) {
+        Some(wanted) => Ok(Some(Text::of(alloc, wanted.log)?)),
+        None => Ok(None),
+    }
+}
+
+/// What the words ask for; `None` where they ask for nothing.
+pub fn read_words(words: &[Text]) -> Option<Wanted<'_>>
+    ensures asked { IsAskedBy words.now (asked_in result) }
+    ensures setup { IfSome result (λ wanted. IsSetup wanted.setup) }
 {
     match words {
-        [command, file] if is_drive(command.bytes()) && is_file(file.bytes()) => Some(file),
+        [command, others @ ..] if command.bytes() == b"drive".as_slice() => {
+            wanted_by(find_all(others)?)
+        }
         _ => None,
     }
 }
 
-// Whether a word is the command `drive`.
-fn is_drive(word: &[u8]) -> bool
-    ensures { result ≡ is_drive word.now }
+// What all these words choose and name.
+fn find_all(words: &[Text]) -> Option<Found<'_>>
+    ensures { Reads nothing_kept words.now (kept_in result) }
 {
-    word == b"drive".as_slice()
+    let mut found = Found::nothing();
+    let mut left = words;
+    loop {
+        let Some((word, rest)) = left.split_first() else {
+            return Some(found);
+        };
+        let Some((more, behind)) = take_part(found, word, rest) else {
+            return None;
+        };
+        found = more;
+        left = behind;
+    }
 }
 
-// Whether a word names a file: it doesn't begin with a dash.
-fn is_file(word: &[u8]) -> bool
-    ensures { result ≡ is_file word.now }
+// Adds what the first words write to what was found, and gives the words behind them.
+fn take_part<'a>(
+    found: Found<'a>,
+    word: &'a Text,
+    rest: &'a [Text],
+) -> Option<(Found<'a>, &'a [Text])>
+    ensures { StepsOver (kept_of found.entry) (word.now ∷ rest.now) result }
 {
-    word.first() != Some(&b'-')
+    match word_of(word.as_text()) {
+        Word::File => Some((found.with_file(word)?, rest)),
+        Word::Name(setting) => {
+            let (value, behind) = rest.split_first()?;
+            Some((found.with(setting, value.as_text())?, behind))
+        }
+        Word::Choice(setting, value) => Some((found.with(setting, value)?, rest)),
+        Word::Unknown => None,
+    }
 }

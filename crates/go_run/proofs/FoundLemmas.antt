@@ -1,0 +1,257 @@
+-- Reading words part by part leads to what all their parts say, and to nothing else.
+use Rattle.std.proofs.Common.{◌≡◌, ℕ, Bool, true, false, IsTrue, List, [], ◌∷◌, ◌++◌}
+use Rattle.std.proofs.Common.{Option, Some, None, option_map, option_to_list, refl, sym, ap, subst, ◌∙◌}
+use Rattle.std.proofs.Common.{append-nil, append_assoc}
+use Rattle.go_run.specs.declared.setting.Setting.{Setting}
+use Rattle.go_run.specs.declared.setting.Setting.TheVariants as settings
+use Rattle.go_run.specs.Words.{Part, chosen, named, may_be, WritesFirst, Writes, value_in, file_in, values_in, files_in}
+use Rattle.go_run.specs.Found.{Kept, nothing_kept, first_of, put, Gathers, Collects, Reads, StepsOver}
+use Rattle.go_run.specs.declared.found.Found.{Found}
+use Rattle.std.specs.Borrow.{Bor}
+use Rattle.go_run.proofs.WordLemmas.{BeginWith, writes_some}
+
+-- what an `Option` holds
+holds : {A B : Type 0} (f : A → B) (it : Option A) (y : B) → option_map f it ≡ Some y → (x : A) × (it ≡ Some x) × (f x ≡ y)
+holds f None y is = absurd (let h : None ≡ Some y = is in cc)
+holds f (Some x) y is = (x, refl, (let h : Some (f x) ≡ Some y = is in cc))
+
+holds_none : {A B : Type 0} (f : A → B) (it : Option A) → option_map f it ≡ None → it ≡ None
+holds_none f None is = refl
+holds_none f (Some x) is = absurd (let h : Some (f x) ≡ None = is in cc)
+
+same_option : (a b : Option (List ℕ)) → option_to_list a ≡ option_to_list b → a ≡ b
+same_option None None same = refl
+same_option None (Some b) same = absurd (let h : [] ≡ b ∷ [] = same in cc)
+same_option (Some a) None same = absurd (let h : a ∷ [] ≡ [] = same in cc)
+same_option (Some a) (Some b) same = let h : a ∷ [] ≡ b ∷ [] = same in cc
+
+no_two : (it : Option (List ℕ)) (a b : List ℕ) (others : List (List ℕ)) → option_to_list it ≡ a ∷ b ∷ others → ⊥
+no_two None a b others is = absurd (let h : [] ≡ a ∷ b ∷ others = is in cc)
+no_two (Some x) a b others is = absurd (let h : x ∷ [] ≡ a ∷ b ∷ others = is in cc)
+
+no_second : (it before : Option (List ℕ)) (old value : List ℕ) (others : List (List ℕ)) → before ≡ Some old →
+    option_to_list it ≡ option_to_list before ++ (value ∷ others) → ⊥
+no_second it before old value others is same =
+    no_two it old value others (same ∙ ap (λ (o : Option (List ℕ)). option_to_list o ++ (value ∷ others)) is)
+
+-- a first value
+first_some : (may : Bool) (before : Option (List ℕ)) (text it : List ℕ) → first_of may before text ≡ Some it →
+    (before ≡ None) × (it ≡ text) × IsTrue may
+first_some false before text it is = absurd (let h : None ≡ Some it = is in cc)
+first_some true None text it is = (refl, (let h : Some text ≡ Some it = is in cc), refl)
+first_some true (Some old) text it is = absurd (let h : None ≡ Some it = is in cc)
+
+first_none : (may : Bool) (before : Option (List ℕ)) (text : List ℕ) → first_of may before text ≡ None → IsTrue may → (old : List ℕ) × (before ≡ Some old)
+first_none false before text is may = absurd (let h : false ≡ true = may in cc)
+first_none true None text is may = absurd (let h : Some text ≡ None = is in cc)
+first_none true (Some old) text is may = (old, refl)
+
+-- what one part adds
+record Adds (kept : Kept) (part : Part) (more : Kept) : Type 0 where
+  may : IsTrue (may_be part)
+  vertices : option_to_list more.vertices ≡ option_to_list kept.vertices ++ option_to_list (value_in settings.Vertices part)
+  ring : option_to_list more.ring ≡ option_to_list kept.ring ++ option_to_list (value_in settings.Ring part)
+  shards : option_to_list more.shards ≡ option_to_list kept.shards ++ option_to_list (value_in settings.Shards part)
+  log : option_to_list more.log ≡ option_to_list kept.log ++ option_to_list (value_in settings.Log part)
+  file : option_to_list more.file ≡ option_to_list kept.file ++ option_to_list (file_in part)
+
+stays : (it : Option (List ℕ)) → option_to_list it ≡ option_to_list it ++ []
+stays it = sym (append-nil (option_to_list it))
+
+comes : (before : Option (List ℕ)) (it value : List ℕ) → before ≡ None → it ≡ value →
+    option_to_list (Some it) ≡ option_to_list before ++ option_to_list (Some value)
+comes before it value none same = ap (λ (x : List ℕ). x ∷ []) same ∙ ap (λ (o : Option (List ℕ)). option_to_list o ++ (value ∷ [])) (sym none)
+
+put_adds : (kept : Kept) (part : Part) (more : Kept) → put kept part ≡ Some more → Adds kept part more
+put_adds kept (chosen settings.Vertices value) more is =
+    let it = holds _ _ more is in
+    let new = first_some (may_be (chosen settings.Vertices value)) kept.vertices value it.0 it.1 in
+    subst (λ (m : Kept). Adds kept (chosen settings.Vertices value) m) it.2 (record {
+      may = new.2;
+      vertices = comes kept.vertices it.0 value new.0 new.1;
+      ring = stays kept.ring;
+      shards = stays kept.shards;
+      log = stays kept.log;
+      file = stays kept.file;
+    })
+put_adds kept (chosen settings.Ring value) more is =
+    let it = holds _ _ more is in
+    let new = first_some (may_be (chosen settings.Ring value)) kept.ring value it.0 it.1 in
+    subst (λ (m : Kept). Adds kept (chosen settings.Ring value) m) it.2 (record {
+      may = new.2;
+      vertices = stays kept.vertices;
+      ring = comes kept.ring it.0 value new.0 new.1;
+      shards = stays kept.shards;
+      log = stays kept.log;
+      file = stays kept.file;
+    })
+put_adds kept (chosen settings.Shards value) more is =
+    let it = holds _ _ more is in
+    let new = first_some (may_be (chosen settings.Shards value)) kept.shards value it.0 it.1 in
+    subst (λ (m : Kept). Adds kept (chosen settings.Shards value) m) it.2 (record {
+      may = new.2;
+      vertices = stays kept.vertices;
+      ring = stays kept.ring;
+      shards = comes kept.shards it.0 value new.0 new.1;
+      log = stays kept.log;
+      file = stays kept.file;
+    })
+put_adds kept (chosen settings.Log value) more is =
+    let it = holds _ _ more is in
+    let new = first_some (may_be (chosen settings.Log value)) kept.log value it.0 it.1 in
+    subst (λ (m : Kept). Adds kept (chosen settings.Log value) m) it.2 (record {
+      may = new.2;
+      vertices = stays kept.vertices;
+      ring = stays kept.ring;
+      shards = stays kept.shards;
+      log = comes kept.log it.0 value new.0 new.1;
+      file = stays kept.file;
+    })
+put_adds kept (named name) more is =
+    let it = holds _ _ more is in
+    let new = first_some (may_be (named name)) kept.file name it.0 it.1 in
+    subst (λ (m : Kept). Adds kept (named name) m) it.2 (record {
+      may = new.2;
+      vertices = stays kept.vertices;
+      ring = stays kept.ring;
+      shards = stays kept.shards;
+      log = stays kept.log;
+      file = comes kept.file it.0 name new.0 new.1;
+    })
+
+-- where a part adds nothing it is the second of its kind, and then no parts lead anywhere
+put_ends : (kept : Kept) (part : Part) (parts : List Part) (all : Kept) → put kept part ≡ None → IsTrue (may_be part) → Gathers kept (part ∷ parts) all → ⊥
+put_ends kept (chosen settings.Vertices value) parts all is may gathers =
+    let old = first_none (may_be (chosen settings.Vertices value)) kept.vertices value (holds_none _ _ is) may in
+    no_second all.vertices kept.vertices old.0 value (values_in settings.Vertices parts) old.1 gathers.vertices
+put_ends kept (chosen settings.Ring value) parts all is may gathers =
+    let old = first_none (may_be (chosen settings.Ring value)) kept.ring value (holds_none _ _ is) may in
+    no_second all.ring kept.ring old.0 value (values_in settings.Ring parts) old.1 gathers.ring
+put_ends kept (chosen settings.Shards value) parts all is may gathers =
+    let old = first_none (may_be (chosen settings.Shards value)) kept.shards value (holds_none _ _ is) may in
+    no_second all.shards kept.shards old.0 value (values_in settings.Shards parts) old.1 gathers.shards
+put_ends kept (chosen settings.Log value) parts all is may gathers =
+    let old = first_none (may_be (chosen settings.Log value)) kept.log value (holds_none _ _ is) may in
+    no_second all.log kept.log old.0 value (values_in settings.Log parts) old.1 gathers.log
+put_ends kept (named name) parts all is may gathers =
+    let old = first_none (may_be (named name)) kept.file name (holds_none _ _ is) may in
+    no_second all.file kept.file old.0 name (files_in parts) old.1 gathers.file
+
+-- what stands behind what was added
+behind : (all before more first rest : List (List ℕ)) → more ≡ before ++ first → all ≡ more ++ rest → all ≡ before ++ (first ++ rest)
+behind all before more first rest added is = is ∙ ap (λ (m : List (List ℕ)). m ++ rest) added ∙ append_assoc before first rest
+
+from_behind : (all before more first rest : List (List ℕ)) → more ≡ before ++ first → all ≡ before ++ (first ++ rest) → all ≡ more ++ rest
+from_behind all before more first rest added is = is ∙ sym (append_assoc before first rest) ∙ ap (λ (m : List (List ℕ)). m ++ rest) (sym added)
+
+gathers_more : (kept more all : Kept) (part : Part) (parts : List Part) → Adds kept part more → Gathers more parts all → Gathers kept (part ∷ parts) all
+gathers_more kept more all part parts adds gathers = record {
+  vertices = behind _ _ _ _ _ adds.vertices gathers.vertices;
+  ring = behind _ _ _ _ _ adds.ring gathers.ring;
+  shards = behind _ _ _ _ _ adds.shards gathers.shards;
+  log = behind _ _ _ _ _ adds.log gathers.log;
+  file = behind _ _ _ _ _ adds.file gathers.file;
+}
+
+gathers_rest : (kept more all : Kept) (part : Part) (parts : List Part) → Adds kept part more → Gathers kept (part ∷ parts) all → Gathers more parts all
+gathers_rest kept more all part parts adds gathers = record {
+  vertices = from_behind _ _ _ _ _ adds.vertices gathers.vertices;
+  ring = from_behind _ _ _ _ _ adds.ring gathers.ring;
+  shards = from_behind _ _ _ _ _ adds.shards gathers.shards;
+  log = from_behind _ _ _ _ _ adds.log gathers.log;
+  file = from_behind _ _ _ _ _ adds.file gathers.file;
+}
+
+-- the words are at their end
+no_parts : (kept all : Kept) (parts : List Part) → Writes parts [] → Gathers kept parts all → Some kept ≡ Some all
+no_parts kept all [] written gathers =
+    let same = λ (a b : Option (List ℕ)) (is : option_to_list b ≡ option_to_list a ++ []). same_option a b (sym (append-nil (option_to_list a)) ∙ sym is) in
+    λ i. Some (record {
+      vertices = same kept.vertices all.vertices gathers.vertices i;
+      ring = same kept.ring all.ring gathers.ring i;
+      shards = same kept.shards all.shards gathers.shards i;
+      log = same kept.log all.log gathers.log i;
+      file = same kept.file all.file gathers.file i;
+    })
+no_parts kept all (part ∷ parts) written gathers = absurd (writes_some part written.0 written.1)
+
+pub reads_end : (kept : Kept) → Reads kept [] (Some kept)
+reads_end kept = record {
+  some = record {
+    parts = [];
+    written = refl;
+    gathers = record {
+      vertices = stays kept.vertices;
+      ring = stays kept.ring;
+      shards = stays kept.shards;
+      log = stays kept.log;
+      file = stays kept.file;
+    };
+  };
+  alone = λ all collects. no_parts kept all collects.parts collects.written collects.gathers;
+}
+
+-- no words lead anywhere of which no part is written first
+pub reads_none : (kept : Kept) (word : List ℕ) (rest : List (List ℕ)) →
+    ((other : Part) (others : List (List ℕ)) → WritesFirst other (word ∷ rest) others → ⊥) → Reads kept (word ∷ rest) None
+reads_none kept word rest none = record {
+  some = tt;
+  alone = λ all collects. absurd (no_first collects.parts collects.written);
+} where
+  no_first : (parts : List Part) → Writes parts (word ∷ rest) → ⊥
+  no_first [] written = let h : word ∷ rest ≡ [] = written in absurd (cc)
+  no_first (part ∷ parts) written = none part written.0 written.1
+
+module _ (kept : Kept) (word : List ℕ) (rest left : List (List ℕ)) (part : Part) (begin : BeginWith (word ∷ rest) part left) where
+  -- one part less
+  collects_more : (more all : Kept) → put kept part ≡ Some more → Collects more left all → Collects kept (word ∷ rest) all
+  collects_more more all is collects =
+      let adds = put_adds kept part more is in
+      record {
+        parts = part ∷ collects.parts;
+        written = (left, record { first = begin.first; spelt = begin.spelt; may = adds.may; split = begin.split }, collects.written);
+        gathers = gathers_more kept more all part collects.parts adds collects.gathers;
+      }
+
+  -- parts that the words write begin with this one
+  rest_of : (all : Kept) (parts : List Part) → Writes parts (word ∷ rest) → Gathers kept parts all →
+      (others : List Part) × Writes others left × Gathers kept (part ∷ others) all × IsTrue (may_be part)
+  rest_of all [] written gathers = let h : word ∷ rest ≡ [] = written in absurd (cc)
+  rest_of all (other ∷ others) written gathers =
+      let same = begin.only other written.0 written.1 in (
+        others,
+        subst (λ (w : List (List ℕ)). Writes others w) same.1 written.2,
+        subst (λ (p : Part). Gathers kept (p ∷ others) all) same.0 gathers,
+        subst (λ (p : Part). IsTrue (may_be p)) same.0 written.1.may,
+      )
+
+  collects_rest : (more all : Kept) → put kept part ≡ Some more → Collects kept (word ∷ rest) all → Collects more left all
+  collects_rest more all is collects =
+      let others = rest_of all collects.parts collects.written collects.gathers in
+      record {
+        parts = others.0;
+        written = others.1;
+        gathers = gathers_rest kept more all part others.0 (put_adds kept part more is) others.2;
+      }
+
+  pub reads_part : (more : Kept) → put kept part ≡ Some more → (answer : Option Kept) → Reads more left answer → Reads kept (word ∷ rest) answer
+  reads_part more is None reads = record {
+    some = tt;
+    alone = λ all collects. reads.alone all (collects_rest more all is collects);
+  }
+  reads_part more is (Some kept_all) reads = record {
+    some = collects_more more kept_all is reads.some;
+    alone = λ all collects. reads.alone all (collects_rest more all is collects);
+  }
+
+  pub reads_no_part : put kept part ≡ None → Reads kept (word ∷ rest) None
+  reads_no_part is = record {
+    some = tt;
+    alone = λ all collects.
+        let others = rest_of all collects.parts collects.written collects.gathers in absurd (put_ends kept part others.0 all is others.3 others.2);
+  }
+
+-- a step that finds nothing
+pub steps_none : (kept : Kept) (words : List (List ℕ)) (result : Option (Found × Bor (List (List ℕ)))) → result ≡ None → Reads kept words None →
+    StepsOver kept words result
+steps_none kept words result is reads = subst (λ (r : Option (Found × Bor (List (List ℕ)))). StepsOver kept words r) (sym is) reads
