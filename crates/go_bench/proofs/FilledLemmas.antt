@@ -1,13 +1,18 @@
 -- Lemmas on the shard of a benchmark.
-use Rattle.std.proofs.Common.{◌≡◌, ℕ, [], ◌∷◌, ◌++◌, sym, subst, refl}
-use Rattle.std.proofs.lemmas.List.Elements.{Contains-push}
-use Rattle.go_shard.specs.ShardState.{ShardState}
+use Rattle.std.proofs.Common.{◌≡◌, ℕ, List, ap, subst, ◌∙◌}
+use Rattle.go_word.specs.declared.edge.Edge.{Edge}
+use Rattle.go_shard.specs.ShardState.{ShardState, Keeps}
+use Rattle.go_shard.specs.Stands.{HasGrown}
 use Rattle.go_bench.specs.Filled.{IsFilled}
 
 -- a shard after one more append
-pub filled_more : (old new : ShardState) (before front length : ℕ) → IsFilled before old → front ≡ length →
-    new ≡ record old { front = front; fronts = old.fronts ++ front ∷ []; lanes = new.lanes } → IsFilled length new
-filled_more old new before front length filled same grown =
-    subst (λ (n : ℕ). IsFilled n new) same
-    (subst (λ (s : ShardState). IsFilled front s) (sym grown)
-    (record { index = filled.index; shards = filled.shards; vertices = filled.vertices; cut = filled.cut; front = refl; kept = Contains-push old.fronts front }))
+pub filled_more : (old new : ShardState) (before front length : ℕ) (batch : List Edge) → IsFilled before old → front ≡ length →
+    HasGrown front batch old new → IsFilled length new
+filled_more old new before front length batch filled same grown = record {
+  index = ap (λ (s : ShardState). s.index) grown.same ∙ filled.index;
+  shards = ap (λ (s : ShardState). s.shards) grown.same ∙ filled.shards;
+  vertices = ap (λ (s : ShardState). s.vertices) grown.same ∙ filled.vertices;
+  cut = ap (λ (s : ShardState). s.cut) grown.same ∙ filled.cut;
+  front = ap (λ (s : ShardState). s.front) grown.same ∙ same;
+  kept = subst (Keeps new) same grown.keeps_front;
+}

@@ -1,6 +1,6 @@
 -- What a shard of a benchmark is.
-use Rattle.std.specs.Prelude.{◌≡◌, ℕ, Contains}
-use Rattle.go_shard.specs.ShardState.{ShardState}
+use Rattle.std.specs.Prelude.{◌≡◌, ℕ}
+use Rattle.go_shard.specs.ShardState.{ShardState, Keeps}
 
 -- a shard of all vertices that knows a log up to a front, and keeps that
 pub record IsFilled (length : ℕ) (shard : ShardState) : Type 0 where
@@ -9,4 +9,4 @@ pub record IsFilled (length : ℕ) (shard : ShardState) : Type 0 where
   pub vertices : shard.vertices ≡ 65536
   pub cut : shard.cut ≡ 0
   pub front : shard.front ≡ length
-  pub kept : Contains shard.fronts length
+  pub kept : Keeps shard length

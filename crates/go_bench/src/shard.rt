@@ -1,5 +1,5 @@
 // Filling a shard in batches, and reading all of its neighbours.
-ghost use Rattle.std.specs.Prelude.{◌≡◌, ◌<◌, ◌≤◌, ◌^◌, Contains, IfOk};
+ghost use Rattle.std.specs.Prelude.{◌≡◌, ◌<◌, ◌≤◌, ◌^◌, IfOk};
 ghost use Rattle.go_bench.specs.Filled.{IsFilled};
 
 use crate::edges::{Shape, VERTICES, edges_from};
