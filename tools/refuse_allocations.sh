@@ -1,6 +1,6 @@
 #!/usr/bin/env bash
-# Refuses each allocation of a run of the program in turn, one number a run, and looks how the run ends: out of memory with nothing
-# but a first part of the ample output, or just as the ample run. Takes some seconds a number; it is no part of the gate.
+# Refuses each allocation of a run of the program in turn, one number a run, and looks how the run ends: out of memory (status 10) with
+# nothing printed, or just as the ample run. Takes some seconds a number; it is no part of the gate.
 # usage: tools/refuse_allocations.sh [SCRIPT]
 set -u
 here=$(cd "$(dirname "$0")/.." && pwd)
@@ -18,7 +18,7 @@ outcome() {
     status=$?
     case $status in
         0) [ "$printed" = "$ample" ] && echo ample && return ;;
-        10) [[ "$ample" == "$printed"* ]] && echo refused && return ;;
+        10) [ -z "$printed" ] && echo refused && return ;;
     esac
     echo "status $status, printed: $printed"
 }

@@ -1,7 +1,7 @@
 #!/usr/bin/env bash
 # Refuses each allocation of a shard's batch in turn, one number a run, and looks that the shard answers as before: for a batch that
 # is taken vertex by vertex, and for one that is taken entry by entry. A number is the batch's own where the test that goes on after
-# a refusal passes, and its twin, which hands the refusal on, ends with it. Takes some seconds a number; it is no part of the gate.
+# a refusal passes, and its twin, which hands the refusal on, ends with it. Where no allocation of a batch is refused it fails.
 # usage: tools/refuse_batch.sh
 set -u
 cd "$(dirname "$0")/../crates/go_shard" || exit 1
