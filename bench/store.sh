@@ -1,7 +1,8 @@
 #!/usr/bin/env bash
-# Scripts of 10,000, 100,000 and 1,000,000 additions that end in a view and a list of neighbours, one that asks as often as it adds, and
-# a second run over the log of 1,000,000 entries that asks 1,000 times: time, peak memory and time a line, each on a real file, beside
-# the plain Rust program of baseline/store.rs with the same file and syncs in the same run. The files are compared byte by byte.
+# Scripts of 10,000, 100,000 and 1,000,000 additions that end in a view and a list of neighbours, one that asks as often as it adds, one
+# that does so at one vertex and an old view, and a second run over the log of 1,000,000 entries that asks 1,000 times: time, peak memory
+# and time a line, each on a real file, beside the plain Rust program of baseline/store.rs with the same file and syncs in the same run.
+# The files are compared byte by byte.
 set -eu
 here=$(cd "$(dirname "$0")" && pwd)
 work=$(mktemp -d)
@@ -31,6 +32,11 @@ make_script() {
 # Questions over a view, and no additions.
 make_questions() {
     awk -v lines="$1" 'BEGIN { x = 1; print "view 0"; for (i = 0; i < lines; i++) { x = (x * 16807) % 2147483647; print "neigh 0 " x % 65536 } }'
+}
+
+# Additions that leave one vertex, each followed by a question to a view of the first one.
+make_hub() {
+    awk -v lines="$1" 'BEGIN { print "add 7 0\nview 0"; for (i = 0; i < lines; i++) print "add 7 " i "\nneigh 0 7" }'
 }
 
 printf '%-10s %9s %9s %9s %11s %11s %7s %7s\n' lines seconds ns/line growth plain\ s peak\ KiB time× memory×
@@ -72,3 +78,5 @@ row again 1000 "$(python3 "$here/measure.py" 5 "$graphone" drive "$work/question
 cd "$work"
 make_script 500000 1 > "$work/ask.gs"
 anew "$work/ask.gs" 1000000 asking
+make_hub 50000 > "$work/hub.gs"
+anew "$work/hub.gs" 100000 hub
