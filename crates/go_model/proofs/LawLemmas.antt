@@ -6,7 +6,7 @@ use Rattle.std.proofs.lemmas.List.Kept.{AllPairs-from_increasing}
 use Rattle.std.specs.List.{AllPairs}
 use Rattle.std.specs.Prelude.{All, Contains, Option, Some, None}
 use Rattle.go_word.specs.declared.edge.Edge.{Edge}
-use Rattle.go_model.specs.declared.ranked.Ranked.{Ranked}
+use Rattle.go_word.specs.declared.ranked.Ranked.{Ranked}
 use Rattle.go_model.specs.Levels.{Walk, IsLevel, AreLevels}
 use Rattle.go_model.specs.Ranks.{degree, Precedes, IsRank}
 use Rattle.go_model.specs.Hops.{IsHop}

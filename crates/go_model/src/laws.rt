@@ -1,7 +1,7 @@
 // Laws of the definitions, each proved as a clause of a function that does nothing.
 ghost use Rattle.std.specs.Prelude.{◌≡◌, ℕ, ◌+◌, List, Option, Some, Contains};
 ghost use Rattle.go_word.specs.declared.edge.Edge.{Edge};
-ghost use Rattle.go_model.specs.declared.ranked.Ranked.{Ranked};
+ghost use Rattle.go_word.specs.declared.ranked.Ranked.{Ranked};
 ghost use Rattle.go_model.specs.Levels.{Leads, Walk, IsLevel, AreLevels};
 ghost use Rattle.go_model.specs.Ranks.{IsRank};
 ghost use Rattle.go_model.specs.Hops.{IsHop};

@@ -9,22 +9,18 @@
 //! Left out: what `out` has after want of memory, of which no clause speaks.
 #![tactic(auto)]
 
-mod edges;
 mod graph;
 mod hops;
 mod laws;
 mod levels;
 mod listed;
-mod ranked;
 mod ranks;
 
-pub use edges::Edges;
 pub use graph::Graph;
 pub use hops::{hop_of, keep_once};
 pub use laws::question_laws;
 pub use levels::{clear_levels, levels_of};
 pub use listed::Listed;
-pub use ranked::Ranked;
 pub use ranks::rank_of;
 
 #[cfg(test)]

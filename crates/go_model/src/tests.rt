@@ -2,7 +2,7 @@
 ghost use Rattle.std.specs.Prelude.{◌<◌, ◌^◌, All, length};
 ghost use Rattle.go_word.specs.Log.{IsWithin};
 
-use crate::{Edges, Graph, Listed, hop_of, levels_of, question_laws, rank_of};
+use crate::{Graph, Listed, hop_of, levels_of, question_laws, rank_of};
 use go_word::Edge;
 use std::alloc::{AllocError, Global};
 use std::process::Abort;
@@ -237,22 +237,13 @@ fn neighbours_in<G: Graph>(graph: &mut G, v: u32, out: &mut Vec<u32>) -> Result<
 #[test]
 fn a_list_of_entries_is_a_graph(rt: HostRuntime) -> Result<(), Fail> {
     question_laws();
-    let edges = Edges::of(rt.alloc(), &[add(1, 2), add(1, 0), add(1, 2), del(1, 2)])?;
-    assert_drawn(&rt, edges.as_slice(), 3);
-    let mut graph = Listed::new(edges.as_slice(), 3);
+    let edges = [add(1, 2), add(1, 0), add(1, 2), del(1, 2)];
+    assert_drawn(&rt, &edges, 3);
+    let mut graph = Listed::new(&edges, 3);
     assert_eq!(rt; graph.vertices(), 3);
     let mut out = Vec::new(rt.alloc());
     assert_eq!(rt; neighbours_in(&mut graph, 1, &mut out)?, true);
     assert_eq!(rt; out.as_slice(), [0, 2].as_slice());
     assert_eq!(rt; neighbours_in(&mut graph, 3, &mut out)?, false);
-    Ok(())
-}
-
-#[test]
-fn entries_are_kept_and_given_back(rt: HostRuntime) -> Result<(), Fail> {
-    let edges = Edges::from_vec([add(1, 2), del(2, 1)].to_vec(rt.alloc())?);
-    assert_eq!(rt; edges.as_slice().len(), 2);
-    let entries = edges.into_vec();
-    assert_eq!(rt; entries.as_slice(), [add(1, 2), del(2, 1)].as_slice());
     Ok(())
 }

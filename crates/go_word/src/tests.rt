@@ -2,7 +2,7 @@
 ghost use Rattle.go_word.specs.Word.{IsStorable};
 
 use crate::{
-    Edge, ID_LIMIT, blank, decode, encode, matched, neighbours_of, plain, raw_of, read_plain,
+    Edge, Edges, ID_LIMIT, blank, decode, encode, matched, neighbours_of, plain, raw_of, read_plain,
 };
 use std::process::Abort;
 use std::test::Fail;
@@ -130,6 +130,17 @@ fn words_of_a_file(rt: HostRuntime) {
             "{word:x} below {vertices}"
         );
     }
+}
+
+#[test]
+fn entries_are_kept_and_given_back(rt: HostRuntime) -> Result<(), Fail> {
+    let copied = Edges::of(rt.alloc(), &[add(1, 2), del(2, 1)])?;
+    assert_eq!(rt; copied.as_slice(), [add(1, 2), del(2, 1)].as_slice());
+    let edges = Edges::from_vec([add(1, 2), del(2, 1)].to_vec(rt.alloc())?);
+    assert_eq!(rt; edges.as_slice().len(), 2);
+    let entries = edges.into_vec();
+    assert_eq!(rt; entries.as_slice(), [add(1, 2), del(2, 1)].as_slice());
+    Ok(())
 }
 
 // That a word can hold the edge, so that what follows may put it into one.

@@ -1,7 +1,7 @@
 // A list of entries that is owned.
 ghost use Rattle.std.specs.Prelude.{◌≡◌, IfOk};
 
-use go_word::Edge;
+use crate::edge::Edge;
 use std::alloc::{AllocError, Global};
 use std::marker::Model;
 
