@@ -1,17 +1,20 @@
 -- What decimal digits read as, digit by digit, and that a number's own digits read as that number.
-use Rattle.std.proofs.Common.{◌≡◌, ℕ, inl, inr, ◌+◌, ◌-◌, ◌*◌, ◌^◌, ◌/◌, ◌%◌, ◌<◌, ◌≤◌, List, [], ◌∷◌, ◌++◌, length, get_or, set, take, drop, true, sym, ap}
-use Rattle.std.proofs.Common.{◌∙◌, append_assoc, length-append, length-drop, arith, Ok}
+use Rattle.std.proofs.Common.{◌≡◌, ℕ, inl, inr, ◌+◌, ◌-◌, ◌*◌, ◌^◌, ◌/◌, ◌%◌, ◌<◌, ◌≤◌, List}
+use Rattle.std.proofs.Common.{[], ◌∷◌, ◌++◌, length, get_or, set, take, drop, true, false, sym, ap, subst}
+use Rattle.std.proofs.Common.{◌∙◌, append_assoc, length-append, length-drop, arith, Ok, Err}
 use Rattle.std.proofs.lemmas.Bool.{cases_lt}
 use Rattle.std.proofs.lemmas.Bool.Decides.{nat_tests}
 use Rattle.std.proofs.lemmas.Fmt.{decimal_is_IsNumeral, first_decimal, decimal_digit, decimal_step, decimal_nonempty, length-decimal-le}
 use Rattle.std.proofs.lemmas.Int.Digits.{digits_value_more}
 use Rattle.std.proofs.lemmas.List.{drop-set}
-use Rattle.std.proofs.lemmas.List.Sums.{prefix_len_passes, prefix_len_is}
+use Rattle.std.proofs.lemmas.List.Sums.{prefix_len_passes, prefix_len_is, prefix_len_stops}
+use Rattle.std.proofs.Math.Nat.{pow-suc, pow-le-pow_right}
 use Rattle.std.proofs.lemmas.Str.{digit_value_digit}
 use Rattle.std.proofs.lemmas.Str.Parse.{digit_at, digits_value-take-le}
 use Rattle.std.specs.Char.{is_ascii_digit, digit_value}
 use Rattle.std.specs.Prelude.{decimal, nat_le, if◌then◌else◌, Some, None}
 use Rattle.std.specs.Str.Parse.{AllDigits}
+use Rattle.go_text.specs.declared.numbers.NumberFault.TheVariants.{NotADigit}
 use Rattle.go_text.specs.Number.{digits_in_front, value_of, number_of, IsNumeralOf}
 
 -- a digit is a byte from '0' to '9', and the other way round
@@ -108,3 +111,55 @@ first_written n rest start digits last some inside so_far =
 -- a value that is above the limit is not answered
 pub above_limit : (value limit : ℕ) → limit < value → None ≡ (if nat_le value limit then Some value else None)
 above_limit value limit above = grind (arith, nat_tests)
+
+-- the digits in front end with the first byte that is none
+pub front_here : (bytes : List ℕ) (at : ℕ) → at < length bytes → at ≤ digits_in_front bytes → is_ascii_digit (get_or bytes at 0) ≡ false →
+    digits_in_front bytes ≡ at
+front_here bytes at within front other = elim (cases_lt at (digits_in_front bytes)) [
+  | inl more ↦ absurd (let digit = prefix_len_passes is_ascii_digit bytes at 0 more in cc)
+  | inr most ↦ omega arith
+]
+
+-- which is the first that is wrong
+pub faulty_at : (limit : ℕ) (bytes : List ℕ) (at : ℕ) → at < length bytes → at ≤ digits_in_front bytes → is_ascii_digit (get_or bytes at 0) ≡ false →
+    Err (NotADigit at) ≡ number_of limit bytes
+faulty_at limit bytes at within front other =
+    let here = front_here bytes at within front other in grind (arith, nat_tests)
+
+-- and go on over each that is one
+pub front_more : (bytes : List ℕ) (at : ℕ) → at < length bytes → at ≤ digits_in_front bytes → is_ascii_digit (get_or bytes at 0) ≡ true →
+    at + 1 ≤ digits_in_front bytes
+front_more bytes at within front digit = elim (cases_lt at (digits_in_front bytes)) [
+  | inl more ↦ omega arith
+  | inr most ↦ absurd (
+      let end : digits_in_front bytes ≡ at = omega arith in
+      let stops = prefix_len_stops is_ascii_digit bytes 0 (omega arith) in
+      let here : is_ascii_digit (get_or bytes at 0) ≡ false = subst (λ (k : ℕ). is_ascii_digit (get_or bytes k 0) ≡ false) end stops in
+      cc
+      )
+]
+
+-- one more digit of some bytes
+pub digit_more : (bytes : List ℕ) (at : ℕ) → at < length bytes → is_ascii_digit (get_or bytes at 0) ≡ true →
+    value_of (take (at + 1) bytes) ≡ value_of (take at bytes) * 10 + (get_or bytes at 0 - 48)
+digit_more bytes at within digit =
+    let range = digit_range (get_or bytes at 0) digit in
+    let own : digit_value (get_or bytes at 0) + 48 ≡ get_or bytes at 0 = digit_value_digit (get_or bytes at 0) range in
+    let value : digit_value (get_or bytes at 0) ≡ get_or bytes at 0 - 48 = omega arith in
+    digits_value_more 10 bytes at within ∙ ap (λ (d : ℕ). value_of (take at bytes) * 10 + d) value
+
+-- a digit is no more than nine
+pub digit_small : (byte : ℕ) → is_ascii_digit byte ≡ true → byte - 48 ≤ 9
+digit_small byte digit = let range = digit_range byte digit in omega arith
+
+-- so many digits write less than this
+pub small_more : (at value digit : ℕ) → value < 10 ^ at → digit ≤ 9 → value * 10 + digit < 10 ^ (at + 1)
+small_more at value digit small nine =
+    let next : 10 ^ (at + 1) ≡ 10 ^ at * 10 = ap (λ (n : ℕ). 10 ^ n) (omega arith) ∙ pow-suc 10 at in
+    omega arith
+
+-- and with one more digit still fit 64 bits
+pub small_fits : (at value : ℕ) → at ≤ 18 → value < 10 ^ at → value * 10 + 9 < 2 ^ 64
+small_fits at value few small =
+    let most : 10 ^ at ≤ 10 ^ 18 = pow-le-pow_right (omega arith) few in
+    omega arith

@@ -1,7 +1,11 @@
 // A decimal number, read from bytes up to a limit.
 
-ghost use Rattle.std.specs.Prelude.{◌≡◌, length, nat_le, if◌then◌else◌};
+ghost use Rattle.std.specs.Prelude.{◌≡◌, ◌<◌, ◌≤◌, length, nat_le, if◌then◌else◌};
 ghost use Rattle.go_text.specs.Number.{digits_in_front, value_of, number_of};
+ghost use Rattle.go_text.specs.declared.numbers.TheConstants.{SHORT};
+
+// So many digits write a number of 64 bits, whichever they are.
+const SHORT: usize = 19;
 
 /// Why bytes are no number within a limit.
 #[derive(Clone, Copy, Debug, PartialEq, Eq)]
@@ -21,6 +25,9 @@ pub fn number(bytes: &[u8], limit: u64) -> Result<u64, NumberFault>
     if bytes.is_empty() {
         return Err(NumberFault::Empty);
     }
+    if bytes.len() <= SHORT {
+        return short_number(bytes, limit);
+    }
     let digits = digits_in_front(bytes);
     if digits < bytes.len() {
         return Err(NumberFault::NotADigit { at: digits });
@@ -29,6 +36,26 @@ pub fn number(bytes: &[u8], limit: u64) -> Result<u64, NumberFault>
         Some(value) => Ok(value),
         None => Err(NumberFault::TooLarge),
     }
+}
+
+// The same for so few bytes that their number fits 64 bits whatever they are: one pass, and no sum can wrap.
+fn short_number(bytes: &[u8], limit: u64) -> Result<u64, NumberFault>
+    requires some { 0 < length bytes.now }
+    requires few { length bytes.now ≤ SHORT }
+    ensures { result ≡ number_of limit bytes.now }
+{
+    let mut value = 0u64;
+    for at in 0..bytes.len() {
+        let byte = bytes[at];
+        if !byte.is_ascii_digit() {
+            return Err(NumberFault::NotADigit { at });
+        }
+        value = value * 10 + u64::from(byte - b'0');
+    }
+    if value > limit {
+        return Err(NumberFault::TooLarge);
+    }
+    Ok(value)
 }
 
 // How many bytes from the front on are digits.
