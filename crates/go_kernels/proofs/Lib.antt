@@ -2,3 +2,4 @@
 pub mod KeepsLemmas
 pub mod FrontLemmas
 pub mod PlaceLemmas
+pub mod CountLemmas

@@ -2,7 +2,7 @@
 ghost use Rattle.std.specs.Prelude.{◌<◌, ◌^◌, All, length};
 ghost use Rattle.go_word.specs.Log.{IsWithin};
 
-use crate::{Work, hop, levels, rank};
+use crate::{Work, hop, level_counts, levels, rank};
 use go_model::{Listed, hop_of, levels_of, rank_of};
 use go_word::Edge;
 use std::alloc::{AllocError, Global};
@@ -205,5 +205,29 @@ fn drawn_graphs_are_answered_as_by_the_plain_programs(rt: HostRuntime) -> Result
             assert_same_rank(&rt, rt.alloc(), &edges, vertices, root * 4)?;
         }
     }
+    Ok(())
+}
+
+#[test]
+fn levels_are_counted_up_to_the_last_one_that_is_reached(rt: HostRuntime) -> Result<(), Fail> {
+    let alloc = rt.alloc();
+    let edges = [
+        edge(false, 0, 1),
+        edge(false, 0, 2),
+        edge(false, 1, 2),
+        edge(false, 3, 0),
+        edge(false, 2, 4),
+        edge(false, 4, 2),
+    ];
+    assert_drawn(&rt, &edges, 6);
+    let mut work = Work::new(alloc);
+    let mut counts = [7, 7].to_vec(alloc)?;
+    let mut graph = Listed::new(&edges, 6);
+    let unreached = level_counts(&mut graph, 0, &mut work, &mut counts)?;
+    assert_eq!(rt; counts.as_slice(), [1, 2, 1].as_slice());
+    assert_eq!(rt; unreached, 2);
+    let unreached = level_counts(&mut graph, 5, &mut work, &mut counts)?;
+    assert_eq!(rt; counts.as_slice(), [1].as_slice());
+    assert_eq!(rt; unreached, 5);
     Ok(())
 }

@@ -1,7 +1,8 @@
--- The lemmas on members, neighbours, marks, levels, ranks and hops.
+-- The lemmas on members, neighbours, marks, levels, counts, ranks and hops.
 pub mod MemberLemmas
 pub mod WithinLemmas
 pub mod MarkLemmas
 pub mod LevelLemmas
 pub mod RankLemmas
 pub mod LawLemmas
+pub mod CountLemmas

@@ -4,3 +4,4 @@ pub mod Levels
 pub mod Search
 pub mod Ranks
 pub mod Hops
+pub mod Counts
