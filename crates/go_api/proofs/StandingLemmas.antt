@@ -1,8 +1,8 @@
 -- A standing goes on: from itself, and over calls one after another.
-use Rattle.std.proofs.Common.{◌≡◌, ℕ, ◌≤◌, List, length, take, refl, sym, ap, ◌∙◌, arith}
+use Rattle.std.proofs.Common.{◌≡◌, ◌≤◌, List, length, take, refl, sym, ap, ◌∙◌, arith}
 use Rattle.std.proofs.lemmas.List.{take_all, take-take}
 use Rattle.go_word.specs.declared.edge.Edge.{Edge}
-use Rattle.go_api.specs.Calls.{IsRead}
+use Rattle.go_api.specs.Calls.{OnlySees, IsRead}
 use Rattle.go_api.specs.Standing.{Standing, Terms, Onward, Kept}
 
 -- a standing goes on from itself
@@ -40,9 +40,27 @@ onward_on one two three first later = record {
   met_stays = λ met. later.met_stays (first.met_stays met);
 }
 
--- a standing keeps what it has, and reading it is one way to do so
+-- a standing keeps what it has, and seeing and reading it are ways to do so
 pub kept_self : (s : Standing) → Kept s s
 kept_self s = record { onward = onward_self s; same_own = refl; same_edges = refl; same_places = refl }
 
+pub sees_self : (s : Standing) → OnlySees s s
+sees_self s = record { kept = kept_self s; quota = refl }
+
 pub read_self : (s : Standing) → IsRead s s
-read_self s = record { kept = kept_self s; quota = refl; same_seen = refl }
+read_self s = record { sees = sees_self s; same_seen = refl }
+
+-- over some calls that keep all, and then some more
+pub kept_on : (one two three : Standing) → Kept one two → Kept two three → Kept one three
+kept_on one two three first later = record {
+  onward = onward_on one two three first.onward later.onward;
+  same_own = later.same_own ∙ first.same_own;
+  same_edges = later.same_edges ∙ first.same_edges;
+  same_places = later.same_places ∙ first.same_places;
+}
+
+pub sees_on : (one two three : Standing) → OnlySees one two → OnlySees two three → OnlySees one three
+sees_on one two three first later = record { kept = kept_on one two three first.kept later.kept; quota = later.quota ∙ first.quota }
+
+pub read_on : (one two three : Standing) → IsRead one two → IsRead two three → IsRead one three
+read_on one two three first later = record { sees = sees_on one two three first.sees later.sees; same_seen = later.same_seen ∙ first.same_seen }

@@ -1,5 +1,5 @@
 -- The limits of a store.
-use Rattle.std.specs.Prelude.{ℕ, ◌≤◌}
+use Rattle.std.specs.Prelude.{◌≤◌}
 use Rattle.std.specs.Int.{IsPowerOfTwo}
 use Rattle.go_word.specs.declared.edge.TheConstants.{VERTEX_LIMIT}
 use Rattle.go_api.specs.declared.limits.TheConstants.{FEWEST_SLOTS, SLOT_LIMIT, SHARD_LIMIT}

@@ -7,11 +7,13 @@
 //! session's entries in its own order. Each position behind the old log is owned by one session, once.
 //! A caller may rely on the laws of `laid_alone`: what one session alone puts can lie behind a log in one way only.
 //! `positions` of specs/Alone.antt are the positions that it then owns; proofs/AloneLemmas.antt exports the lemmas on them.
-//! `Stop`, `Place` and `Setup` are plain data: why a store stops, what a session keeps at a place, and how large a store is.
+//! `Stop`, `Place`, `Offer`, `Reached`, `Span` and `Setup` are plain data: why a store stops, what a session keeps at a place, what some
+//! calls answer, and how large a store is.
 //! Left out: which order of several sessions comes about, which no contract says.
 #![tactic(auto)]
 
 mod alone;
+mod answers;
 mod limits;
 mod place;
 mod setup;
@@ -19,6 +21,7 @@ mod stop;
 mod store;
 
 pub use alone::laid_alone;
+pub use answers::{Offer, Reached, Span};
 pub use limits::{FEWEST_SLOTS, LOG_ENTRIES, SHARD_LIMIT, SLOT_LIMIT};
 pub use place::{PLACES, Place};
 pub use setup::Setup;

@@ -10,4 +10,6 @@ pub enum Place {
     Free,
     /// A view of the log's first entries, as many as its front.
     View { front: u64 },
+    /// A stream of the log's entries, which has come to its cursor.
+    Stream { cursor: u64 },
 }
