@@ -13,6 +13,7 @@ pub mod GrowthLemmas
 pub mod ComingLemmas
 pub mod RenewalLemmas
 pub mod CompactLemmas
+pub mod AllCompactLemmas
 pub mod SplitLemmas
 pub mod TakingLemmas
 pub mod PartLemmas

@@ -21,6 +21,7 @@ part_longer v so_many i from views log more shard part = record {
   keeps_views = part.keeps_views;
   cut = part.cut;
   cut_views = part.cut_views;
+  pins = part.pins;
 }
 
 -- the shards' parts of a longer log
@@ -47,6 +48,7 @@ part_viewed v so_many i from front views later log shard whole among part = reco
   keeps_views = λ n view below. keep n below (among n view);
   cut = part.cut;
   cut_views = λ n view. uncut n (among n view);
+  pins = part.pins;
 } where
   uncut : (n : ℕ) → (front ≡ n) ⊎ Contains views n → shard.cut ≤ n
   uncut n (inl is) = omega (arith, is, whole, part.within, part.stands.cut)
@@ -84,4 +86,5 @@ part_come v so_many i from views log shard part come =
       keeps_views = part.keeps_views;
       cut = omega (arith, part.stands.cut, end);
       cut_views = part.cut_views;
+      pins = part.pins;
     }

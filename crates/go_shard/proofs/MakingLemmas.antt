@@ -17,6 +17,7 @@ pub record IsEmpty (v so_many i : ℕ) (shard : ShardState) : Type 0 where
   pub index_is : shard.index ≡ i
   pub shards_are : shard.shards ≡ so_many
   pub vertices_are : shard.vertices ≡ v
+  pub pins : shard.pins ≡ []
 
 -- the first shards of so many, without entries
 pub record IsEmptyUpTo (v so_many i : ℕ) (shards : List ShardState) : Type 0 where
@@ -53,6 +54,7 @@ empty_part v so_many i log shard is =
       keeps_views = λ n view below. absurd (omega (arith, view.1));
       cut = omega (arith, front, is.stands.cut);
       cut_views = λ n view. absurd (omega (arith, view.1));
+      pins = is.pins;
     }
 
 -- all shards without entries

@@ -76,6 +76,7 @@ part_taken v so_many i from start end views log piece batch old new part taken i
           (omega (arith, below, front));
       cut = omega (arith, ap (λ (s : ShardState). s.cut) same, part.cut);
       cut_views = λ n view. omega (arith, ap (λ (s : ShardState). s.cut) same, part.cut_views n view);
+      pins = ap (λ (s : ShardState). s.pins) same ∙ part.pins;
     }
 
 -- what holds of all holds of one that is among them

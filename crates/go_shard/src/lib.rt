@@ -17,6 +17,7 @@ mod batch;
 mod by_groups;
 mod catching_up;
 mod compacting;
+mod compacting_all;
 mod fronts;
 mod groups;
 mod held;
@@ -31,6 +32,7 @@ mod store;
 mod striping;
 
 pub use catching_up::catch_up;
+pub use compacting_all::compact_all;
 pub use fronts::FrontRange;
 pub use making::empty_shards;
 pub use reading::list_neighbours;
