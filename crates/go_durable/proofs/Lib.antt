@@ -12,3 +12,4 @@ pub mod Journals
 pub mod Finishing
 pub mod Ranges
 pub mod RangeSteps
+pub mod JournalRanges

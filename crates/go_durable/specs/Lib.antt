@@ -10,4 +10,5 @@ pub mod Handing
 pub mod Reading
 pub mod Ranging
 pub mod Journal
+pub mod JournalRanging
 pub mod Finishing

@@ -42,10 +42,12 @@ pub record AddsWords (contents : Option (List ℕ)) (at count : ℕ) (old new : 
 pub record AddsRange (log : List Edge) (a b : ℕ) (old new : List Edge) : Type 0 where
   pub added : new ≡ old ++ take (b - a) (drop a log)
 
--- the log was read: it is the same on its disk, so many entries were added, and they are the log's where the disk tells
+-- the log was read: it is the same on its disk, of which a read gives what it gave, so many entries were added, and they are the log's where the disk
+-- tells
 pub record HasReadRange {D : Type 0} (device : Device D) (a b : ℕ) (old new : LogState D) (before after : List Edge) : Type 0 where
   pub same : new ≡ record old { disk = new.disk }
   pub stands : (log : List Edge) → IsLog device old log → IsLog device new log
+  pub contents : (log : List Edge) → IsLog device old log → device.contents new.disk ≡ device.contents old.disk
   pub so_many : length after ≡ length before + (b - a)
   pub front_stays : take (length before) after ≡ before
   pub shown : (log : List Edge) → IsLog device old log → IfSome (device.contents old.disk) (λ bytes. AddsRange log a b before after)

@@ -26,6 +26,7 @@ mod limits;
 mod making;
 mod opening;
 mod range;
+mod ranged;
 mod through;
 mod whole;
 
@@ -36,6 +37,7 @@ pub use journal::{Flushed, Journal};
 pub use laws::{log_laws, recovery_laws};
 pub use limits::FILE_LIMIT;
 pub use opening::attach;
+pub use ranged::Ranged;
 
 #[cfg(test)]
 mod caller;

@@ -56,6 +56,7 @@ returns-clause-answer g c =
       same = same;
       stands = λ log is. subst (λ (s : LogState g.row.D.Denot). IsLog g.D.Disk.device s log) (sym same)
           (looked_stands g.D.Disk.device c.args.self c.read_places.new.disk log is (looked g at.After-read_places log is));
+      contents = λ log is. (looked g at.After-read_places log is).looks.contents;
       so_many = c.in-Ok-read_places.ensures.many ∙ ap (λ (l : List Edge). length l + (c.args.b - c.args.a)) c.words_with_room.ensures.same;
       front_stays = subst (λ (l : List Edge). take (length l) c.read_places.new.out.items ≡ l) c.words_with_room.ensures.same c.read_places.ensures.front;
       shown = λ log is.
