@@ -1,18 +1,44 @@
 -- Lemmas on the grammar of scripts.
-use Rattle.std.proofs.Common.{◌≡◌, ℕ, ◌+◌, List, [], ◌∷◌, ◌++◌, take, refl, sym, subst, ap, Bool, true, false, Some, None, inl, inr, Result, Ok, Err}
+use Rattle.std.proofs.Common.{◌≡◌, ℕ, ◌+◌, List, [], ◌∷◌, ◌++◌, take, refl, subst, ap, Bool, true, false, Some, None, inl, inr, Result, Ok, Err}
+use Rattle.std.proofs.Common.{◌≤◌, ◌<◌, length, get_or, arith}
 use Rattle.std.specs.Prelude.{if◌then◌else◌}
+use Rattle.std.specs.Borrow.{Bor}
+use Rattle.std.specs.Str.{IsUtf8, is_utf8}
+use Rattle.std.proofs.lemmas.Str.{IsUtf8-from_is_utf8, is_utf8-from_IsUtf8}
 use Rattle.std.proofs.lemmas.Bool.{cases_Bool}
 use Rattle.go_text.specs.Word.{words}
 use Rattle.go_text.specs.declared.faults.FaultKind.{FaultKind}
-use Rattle.go_text.specs.declared.faults.FaultKind.TheVariants.{Place}
+use Rattle.go_text.specs.declared.faults.FaultKind.TheVariants.{Name, Place}
 use Rattle.go_script.specs.declared.command.Command.{Command}
 use Rattle.go_script.specs.declared.step.Step.{Step}
 use Rattle.go_script.specs.declared.fault.ScriptFault.{ScriptFault}
 use Rattle.go_script.specs.declared.fault.ScriptFault.TheVariants.{Line}
 use Rattle.go_script.specs.Places.{finds_place}
-use Rattle.go_script.specs.Grammar.{command_of, line_of, placed, command_after, script_from, at_line}
-use Rattle.go_text.specs.Texts.{is_skipped}
+use Rattle.go_script.specs.Grammar.{name_in, place_in, pair_of, command_of, line_of, placed, command_after, script_from, at_line}
+use Rattle.go_text.specs.Arguments.{vertex_in}
+use Rattle.go_text.specs.Texts.{texts, is_skipped}
 use Rattle.go_text.specs.Steps.{◌>>=◌}
+
+-- a word that is UTF-8 is a name
+pub name_in-valid : (word name : List ℕ) → name ≡ word → IsUtf8 word → name_in word ≡ Ok name
+name_in-valid word name same valid = rw (is_utf8-from_IsUtf8 word valid, same) refl
+
+-- a word that isn't UTF-8 is none
+pub name_in-invalid : (word : List ℕ) → (IsUtf8 word → ⊥) → name_in word ≡ Err Name
+name_in-invalid word invalid = elim (cases_Bool (is_utf8 word)) [
+  | inl valid ↦ absurd (invalid (IsUtf8-from_is_utf8 word valid))
+  | inr not_valid ↦ rw not_valid refl
+]
+
+-- a faulty root behind a place is the fault of the arguments
+pub pair_of-root_fault : (v : ℕ) (arguments : List (Bor (List ℕ))) (d e : Bor (List ℕ)) (place : ℕ) (kind : FaultKind) →
+    3 ≤ length arguments → length arguments < 4 → place_in (get_or arguments 0 d).now ≡ Ok place → vertex_in v (get_or arguments 1 e).now ≡ Err kind →
+    pair_of v (texts arguments) ≡ Err kind
+pair_of-root_fault v [] d e place kind least most named fault = absurd (omega arith)
+pair_of-root_fault v (a ∷ []) d e place kind least most named fault = absurd (omega arith)
+pair_of-root_fault v (a ∷ b ∷ []) d e place kind least most named fault = absurd (omega arith)
+pair_of-root_fault v (a ∷ b ∷ c ∷ []) d e place kind least most named fault = rw (named, fault) refl
+pair_of-root_fault v (a ∷ b ∷ c ∷ f ∷ more) d e place kind least most named fault = absurd (omega arith)
 
 -- a line is judged by its first five words
 pub line_of-take : (v : ℕ) (before : List Command) (words : List (List ℕ)) → line_of v before (take 5 words) ≡ line_of v before words
@@ -32,6 +58,15 @@ when_fault true read n without next kind is = absurd (cc)
 when_fault false (Ok command) n without next kind is = absurd (cc)
 when_fault false (Err other) n without next kind is = cc
 
+-- a line that is skipped is left out
+when_skipped : (skipped : Bool) (read : Result Command FaultKind) (n : ℕ) (without : Result (List Step) ScriptFault) (next : Command →
+    Result (List Step) ScriptFault) →
+    (if skipped then Ok None else read >>= λ command. Ok (Some command)) ≡ Ok None →
+    (if skipped then without else at_line n read >>= next) ≡ without
+when_skipped true read n without next is = refl
+when_skipped false (Ok command) n without next is = absurd (cc)
+when_skipped false (Err kind) n without next is = absurd (cc)
+
 -- a command goes on
 when_command : (skipped : Bool) (read : Result Command FaultKind) (n : ℕ) (without : Result (List Step) ScriptFault) (next : Command →
     Result (List Step) ScriptFault) (command : Command) →
@@ -48,6 +83,13 @@ script_from-fault v before n line more kind fault =
     when_fault (is_skipped (words line)) (command_after v before (words line)) n (script_from v before (n + 1) more)
     (λ command. script_from v (before ++ command ∷ []) (n + 1) more >>= λ steps. Ok (record { line = n; command = command } ∷ steps)) kind fault
 
+-- a line that is skipped is left out of the reading
+pub script_from-skipped : (v : ℕ) (before : List Command) (n : ℕ) (line : List ℕ) (more : List (List ℕ)) →
+    line_of v before (words line) ≡ Ok None → script_from v before n (line ∷ more) ≡ script_from v before (n + 1) more
+script_from-skipped v before n line more skipped =
+    when_skipped (is_skipped (words line)) (command_after v before (words line)) n (script_from v before (n + 1) more)
+    (λ command. script_from v (before ++ command ∷ []) (n + 1) more >>= λ steps. Ok (record { line = n; command = command } ∷ steps)) skipped
+
 -- a command goes in front of the steps behind its line
 pub script_from-command : (v : ℕ) (before : List Command) (n : ℕ) (line : List ℕ) (more : List (List ℕ)) (command : Command) →
     line_of v before (words line) ≡ Ok (Some command) →
@@ -59,11 +101,6 @@ pub script_from-command : (v : ℕ) (before : List Command) (n : ℕ) (line : Li
 script_from-command v before n line more command read =
     when_command (is_skipped (words line)) (command_after v before (words line)) n (script_from v before (n + 1) more)
     (λ command'. script_from v (before ++ command' ∷ []) (n + 1) more >>= λ steps. Ok (record { line = n; command = command' } ∷ steps)) command read
-
--- a line that isn't skipped has the fault of its command
-pub line_of-fault : (v : ℕ) (before : List Command) (words : List (List ℕ)) (kind : FaultKind) → false ≡ is_skipped words → Err kind ≡ command_of v words →
-    Err kind ≡ line_of v before words
-line_of-fault v before words kind unskipped fault = rw (sym unskipped, sym fault) refl
 
 -- a command that finds its place
 placed-found : (before : List Command) (found command : Command) → placed before found ≡ Ok command → finds_place before command ≡ true

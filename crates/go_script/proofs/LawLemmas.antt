@@ -11,7 +11,7 @@ use Rattle.go_script.specs.declared.fault.ScriptFault.{ScriptFault}
 use Rattle.go_script.specs.declared.fault.ScriptFault.TheVariants.{Line, Memory}
 use Rattle.go_script.specs.Grammar.{command_after, script_from, at_line}
 use Rattle.go_text.specs.Texts.{is_skipped}
-use Rattle.go_script.specs.Places.{commands_of}
+use Rattle.go_script.specs.Commands.{commands_of}
 use Rattle.go_script.specs.Reading.{ReadsAs, IsReading, HasFirstFault}
 use Rattle.go_text.specs.Steps.{◌>>=◌}
 

@@ -4,3 +4,6 @@ mod PlaceLemmas
 mod GrammarLemmas
 mod ReadingLemmas
 mod LawLemmas
+mod TallyLemmas
+mod UntilLemmas
+mod SessionLemmas

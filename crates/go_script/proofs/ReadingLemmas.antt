@@ -1,5 +1,5 @@
 -- How far a reading of a text has come, step by step.
-use Rattle.std.proofs.Common.{◌≡◌, ℕ, ◌+◌, ◌-◌, ◌≤◌, List, [], ◌∷◌, ◌++◌, length, take, drop, Result, Ok, Err, Some, refl, sym, ap, ◌∙◌, append_assoc}
+use Rattle.std.proofs.Common.{◌≡◌, ℕ, ◌+◌, ◌-◌, ◌≤◌, List, [], ◌∷◌, ◌++◌, length, take, drop, Result, Ok, Err, Some, None, refl, sym, ap, ◌∙◌, append_assoc}
 use Rattle.std.proofs.Common.{subst, arith}
 use Rattle.std.specs.Str.Lines.{lines}
 use Rattle.go_text.specs.Line.{IsNextLine}
@@ -13,9 +13,10 @@ use Rattle.go_script.specs.declared.fault.ScriptFault.{ScriptFault}
 use Rattle.go_script.specs.declared.fault.ScriptFault.TheVariants as faults
 use Rattle.go_script.specs.Grammar.{line_of, script_from, script_of}
 use Rattle.go_script.specs.Held.{Tells}
-use Rattle.go_script.specs.Places.{IsWithin, NamesBelow, commands_of}
+use Rattle.go_script.specs.Places.{IsWithin, NamesBelow}
+use Rattle.go_script.specs.Commands.{commands_of}
 use Rattle.go_text.specs.Steps.{◌>>=◌}
-use Rattle.go_script.proofs.GrammarLemmas.{script_from-fault, script_from-command}
+use Rattle.go_script.proofs.GrammarLemmas.{script_from-fault, script_from-skipped, script_from-command}
 use Rattle.go_script.proofs.ScriptLemmas.{commands_of-push, IsWithin_push}
 
 -- the bytes of a line
@@ -57,6 +58,20 @@ pub SoFar_fault : (v : ℕ) (text : List ℕ) (places : Places) (steps : List St
 SoFar_fault v text places steps number from line kind so_far next fault =
     next_read v text places steps number from line _ so_far next
     (script_from-fault v (commands_of steps) (number + 1) (bytes_of text line) (lines (drop line.next text)) kind fault)
+
+-- a line was skipped
+pub SoFar_skipped : (v : ℕ) (text : List ℕ) (places : Places) (steps : List Step) (number from : ℕ) (line : Line) →
+    SoFar v text places steps number from → IsNextLine text from line →
+    line_of v (commands_of steps) (words (bytes_of text line)) ≡ Ok None →
+    SoFar v text places steps (number + 1) line.next
+SoFar_skipped v text places steps number from line so_far next skipped = record {
+  inside = next.inside;
+  counted = omega (arith, next.advances, so_far.counted);
+  tells = so_far.tells;
+  within = so_far.within;
+  rest = next_read v text places steps number from line _ so_far next
+      (script_from-skipped v (commands_of steps) (number + 1) (bytes_of text line) (lines (drop line.next text)) skipped);
+}
 
 -- a command was read, and the places are those after it
 pub SoFar_command : (v : ℕ) (text : List ℕ) (places now : Places) (steps : List Step) (number from : ℕ) (line : Line) (command : Command) →

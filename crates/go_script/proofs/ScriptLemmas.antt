@@ -1,8 +1,9 @@
 -- Lemmas on the steps of a script.
-use Rattle.std.proofs.Common.{◌≡◌, ◌⊎◌, ℕ, zero, suc, List, [], ◌∷◌, ◌++◌, slice_get, take, Some, refl, ap, inl, inr, subst, sym}
+use Rattle.std.proofs.Common.{◌≡◌, ◌⊎◌, ℕ, zero, suc, List, [], ◌∷◌, ◌++◌, slice_get, take, length, Some, refl, ap, inl, inr, subst, sym}
 use Rattle.go_script.specs.declared.step.Step.{Step}
 use Rattle.go_script.specs.declared.command.Command.{Command}
-use Rattle.go_script.specs.Places.{Fits, IsScript, IsWithin, NamesBelow, commands_of}
+use Rattle.go_script.specs.Places.{Fits, IsScript, IsWithin, NamesBelow}
+use Rattle.go_script.specs.Commands.{commands_of}
 
 -- an element of a list with one more at the end stands in the list, or is that one
 slice_get_push : {A : Type 0} (xs : List A) (y : A) (k : ℕ) (x : A) → slice_get (xs ++ y ∷ []) k ≡ Some x →
@@ -24,6 +25,11 @@ IsScript_push commands command script fits = record {
     | inr h ↦ subst (λ (before : List Command). Fits before other) (sym h.1) (subst (λ (c : Command). Fits commands c) h.0 fits)
   ];
 }
+
+-- there are as many commands as steps
+pub length-commands_of : (steps : List Step) → length (commands_of steps) ≡ length steps
+length-commands_of [] = refl
+length-commands_of (step ∷ steps) = ap suc (length-commands_of steps)
 
 -- the commands of steps with one more
 pub commands_of-push : (steps : List Step) (step : Step) → commands_of (steps ++ step ∷ []) ≡ commands_of steps ++ step.command ∷ []

@@ -6,7 +6,7 @@ use Rattle.go_script.specs.declared.command.Command.{Command}
 use Rattle.go_script.specs.declared.step.Step.{Step}
 use Rattle.go_script.specs.Grammar.{command_after}
 use Rattle.go_text.specs.Texts.{is_skipped}
-use Rattle.go_script.specs.Places.{commands_of}
+use Rattle.go_script.specs.Commands.{commands_of}
 
 -- among lines that are numbered from n, line m is one that isn't skipped, and reads as that after the commands before it
 pub record ReadsAs (v : ℕ) (before : List Command) (n : ℕ) (lines : List (List ℕ)) (m : ℕ) (read : Result Command FaultKind) : Type 0 where

@@ -1,6 +1,7 @@
 // Why a script isn't read.
 ghost use Rattle.std.specs.Prelude.{◌≡◌};
 ghost use Rattle.go_script.specs.declared.fault.ScriptFault.TheVariants.{Memory};
+ghost use Rattle.go_script.specs.declared.fault.LineFault.TheVariants.{Fault, NoMemory};
 
 use go_text::FaultKind;
 use std::alloc::AllocError;
@@ -22,5 +23,30 @@ impl From<AllocError> for ScriptFault {
 
     fn from(_error: AllocError) -> ScriptFault {
         ScriptFault::Memory
+    }
+}
+
+// Why a line is no command.
+#[derive(Clone, Copy)]
+pub enum LineFault {
+    // Its first fault.
+    Fault { kind: FaultKind },
+    // There isn't enough memory.
+    NoMemory,
+}
+
+impl From<AllocError> for LineFault {
+    ghost from_gives = { λ _ fault. fault ≡ NoMemory };
+
+    fn from(_error: AllocError) -> LineFault {
+        LineFault::NoMemory
+    }
+}
+
+impl From<FaultKind> for LineFault {
+    ghost from_gives = { λ kind fault. fault ≡ Fault kind };
+
+    fn from(kind: FaultKind) -> LineFault {
+        LineFault::Fault { kind }
     }
 }

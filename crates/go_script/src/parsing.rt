@@ -1,9 +1,10 @@
 // A whole text, read as a script.
 ghost use Rattle.std.specs.Prelude.{IfOk};
 ghost use Rattle.go_script.specs.Grammar.{Reads};
-ghost use Rattle.go_script.specs.Places.{IsWithin, commands_of};
+ghost use Rattle.go_script.specs.Commands.{commands_of};
+ghost use Rattle.go_script.specs.Places.{IsWithin};
 
-use crate::fault::ScriptFault;
+use crate::fault::{LineFault, ScriptFault};
 use crate::line::read_line;
 use crate::places::Places;
 use crate::script::Script;
@@ -24,16 +25,17 @@ pub fn parse(alloc: Global, text: &[u8], v: u32) -> Result<Script, ScriptFault>
     let mut from = 0;
     while let Some(line) = next_line(text, from) {
         number += 1;
-        match read_line(&text[line.start..line.stop], v, &places) {
+        match read_line(alloc, &text[line.start..line.stop], v, &places) {
             Ok(None) => {}
             Ok(Some(command)) => {
+                places.take(command.use_of());
                 script.push(Step {
                     line: number,
                     command,
                 })?;
-                places.take(&command);
             }
-            Err(kind) => return Err(ScriptFault::Line { line: number, kind }),
+            Err(LineFault::Fault { kind }) => return Err(ScriptFault::Line { line: number, kind }),
+            Err(LineFault::NoMemory) => return Err(ScriptFault::Memory),
         }
         from = line.next;
     }

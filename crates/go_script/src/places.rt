@@ -1,16 +1,17 @@
-// Which places hold a view.
+// What stands at each place.
 ghost use Rattle.std.specs.Prelude.{◌≡◌, List, [], ◌∷◌, ◌++◌};
 ghost use Rattle.go_script.specs.declared.command.Command.{Command as AnyCommand};
-ghost use Rattle.go_script.specs.Places.{NamesPlace, finds_place};
+ghost use Rattle.go_script.specs.Commands.{use_of};
+ghost use Rattle.go_script.specs.Places.{UsesPlace, finds_use};
 ghost use Rattle.go_script.specs.Held.{Tells};
 
-use crate::command::Command;
+use crate::usage::{Kind, Use};
 use go_api::PLACES;
 
-// Which places hold a view after the commands that were read.
+// What stands at each place after the commands that were read.
 #[derive(Clone, Copy)]
 pub struct Places {
-    pub held: [bool; PLACES],
+    pub held: [Option<Kind>; PLACES],
 }
 
 impl Places {
@@ -19,29 +20,33 @@ impl Places {
         ensures { Tells result [] }
     {
         Places {
-            held: [false; PLACES],
+            held: [None; PLACES],
         }
     }
 
-    // Whether a command finds its place as it needs it.
-    pub fn suit(&self, command: &Command) -> bool
-        requires { NamesPlace command.now }
-        ensures { (before : List AnyCommand) → Tells self.now before → result ≡ finds_place before command.now }
+    // Whether a use finds its place as it needs it.
+    pub fn suit(&self, wanted: Use) -> bool
+        requires { UsesPlace wanted }
+        ensures { (before : List AnyCommand) → Tells self.now before → result ≡ finds_use before wanted }
     {
-        match *command {
-            Command::Add { .. } | Command::Del { .. } => true,
-            Command::View { place } => !self.held[place as usize],
-            Command::Neigh { place, .. } => self.held[place as usize],
+        match wanted {
+            Use::Nothing => true,
+            Use::Fills { place, .. } => self.held[place as usize].is_none(),
+            Use::Reads { place, kind } | Use::Frees { place, kind } => {
+                self.held[place as usize] == Some(kind)
+            }
         }
     }
 
-    // One more command was read.
-    pub fn take(&mut self, command: &Command)
-        requires { NamesPlace command.now }
-        ensures { (before : List AnyCommand) → Tells self.old before → Tells self.new (before ++ command.now ∷ []) }
+    // A command with this use was read.
+    pub fn take(&mut self, made: Use)
+        requires { UsesPlace made }
+        ensures { (before : List AnyCommand) (command : AnyCommand) → Tells self.old before → use_of command ≡ made → Tells self.new (before ++ command ∷ []) }
     {
-        if let Command::View { place } = *command {
-            self.held[place as usize] = true;
+        match made {
+            Use::Nothing | Use::Reads { .. } => {}
+            Use::Fills { place, kind } => self.held[place as usize] = Some(kind),
+            Use::Frees { place, .. } => self.held[place as usize] = None,
         }
     }
 }

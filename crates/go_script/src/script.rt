@@ -1,6 +1,7 @@
 // A script that was read: its commands with their lines.
-ghost use Rattle.std.specs.Prelude.{◌≡◌, ◌<◌, ◌∷◌, ◌++◌, [], length, slice_get, ◌==◌, Some, IfSome, OnOk, OnErr};
-ghost use Rattle.go_script.specs.Places.{Fits, IsScript, commands_of};
+ghost use Rattle.std.specs.Prelude.{◌≡◌, ◌<◌, ◌∷◌, ◌++◌, [], length, slice_get, ◌==◌, ◌^◌, Some, IfSome, OnOk, OnErr};
+ghost use Rattle.go_script.specs.Commands.{commands_of};
+ghost use Rattle.go_script.specs.Places.{Fits, IsScript};
 
 use crate::command::Command;
 use crate::step::Step;
@@ -19,7 +20,8 @@ pub struct Script {
 impl Model for Script {
     ghost use Rattle.std.specs.Prelude.{List};
     ghost use Rattle.go_script.specs.declared.step.Step.{Step};
-    ghost use Rattle.go_script.specs.Places.{IsScript, commands_of};
+    ghost use Rattle.go_script.specs.Commands.{commands_of};
+    ghost use Rattle.go_script.specs.Places.{IsScript};
 
     ghost Value = { List Step };
 
@@ -41,6 +43,7 @@ impl Script {
     /// The number of commands.
     pub fn len(&self) -> usize
         ensures len { result ≡ length self.now }
+        ensures small { length self.now < 2 ^ 63 }
         ensures script { IsScript (commands_of self.now) }
     {
         self.steps.len()

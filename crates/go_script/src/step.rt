@@ -3,7 +3,7 @@
 use crate::command::Command;
 
 /// A command, and its line in the script's text, counted from 1.
-#[derive(Clone, Copy, Debug, PartialEq, Eq)]
+#[derive(Debug, Drop)]
 pub struct Step {
     pub line: u64,
     pub command: Command,
