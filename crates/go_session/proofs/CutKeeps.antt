@@ -1,151 +1,296 @@
--- A cut of replies holds no reply on the log's first entries back.
-use Rattle.std.proofs.Common.{◌≡◌, ℕ, zero, suc, ◌+◌, ◌<◌, ◌≤◌, Bool, true, false, List, [], ◌∷◌, length, slice_get, fold, Option, Some, None, unwrap_or}
-use Rattle.std.proofs.Common.{refl, arith, sym, subst, inl, inr}
+-- A cut of replies holds none back that rests on the log's first entries.
+use Rattle.std.proofs.Common.{◌≡◌, ℕ, zero, suc, ◌+◌, ◌-◌, ◌<◌, ◌≤◌, List, [], ◌∷◌, length, take, drop, filter, fold, get_or, slice_get}
+use Rattle.std.proofs.Common.{Option, Some, None, refl, sym, subst, ap, ◌∙◌, arith, ⊎_elim, inl, inr}
+use Rattle.std.specs.Prelude.{All, nat_lt}
+use Rattle.std.proofs.Math.Nat.{le-max_left, le-max_right}
+use Rattle.std.proofs.lemmas.Bool.{cases_lt}
 use Rattle.std.proofs.lemmas.Bool.Decides.{leb_tells}
-use Rattle.std.proofs.lemmas.Option.{slice_get_within}
+use Rattle.std.proofs.lemmas.List.Elements.{All-get_or, All-from_get_or}
+use Rattle.std.proofs.lemmas.Option.{slice_get_within, get_or_from_slice_get}
+use Rattle.go_word.specs.declared.edge.Edge.{Edge}
+use Rattle.go_api.specs.Calls.{last_of}
 use Rattle.go_api.specs.Laid.{Rises}
-use Rattle.go_script.specs.declared.command.Command.{Command}
-use Rattle.go_script.specs.declared.command.Command.TheVariants.{Add, Del, View, Neigh}
 use Rattle.go_report.specs.declared.reply.Reply.{Reply}
-use Rattle.go_report.specs.declared.reply.Reply.TheVariants.{Viewed}
+use Rattle.go_report.specs.declared.reply.Reply.TheVariants as tells
+use Rattle.go_session.specs.Asked.{Asked}
+use Rattle.go_session.specs.Session.{next_entries}
+use Rattle.go_session.specs.Walk.{World, Walk, Row, row_of, start, after, Effect, effect_of, led_by, uses, raises, IsEntry, IsBusy, IsLoaded, IsRow, Replies}
+use Rattle.go_session.specs.Walk.Row.{entry, offered, loaded, viewed, value, streamed, updated, reached, synced, word}
 use Rattle.go_session.specs.Cut.{rest_of, cut_from}
-use Rattle.go_session.specs.Walk.{World, Walk, IsPlaced, IsReply, Replies, no_fronts, start, after, fronts_after, walked, showing}
-use Rattle.go_session.proofs.WalkLemmas.{front_after}
-use Rattle.go_session.proofs.CutWalks.{rest_of-showing, front_at-after}
+use Rattle.go_session.proofs.RowLemmas.{IsKind, ShowsEntry, row_kind, value_quiet, offered_entry, frees, start_inside}
+use Rattle.go_session.proofs.CutWalks.{IsCut, asked_commands, cut_after, get_taken, get_dropped, last_get, rises_from, rises_order}
 
--- rising positions are at or above the first
-rises_from : (first : ℕ) (own : List ℕ) (k p : ℕ) → Rises first own → slice_get own k ≡ Some p → first ≤ p
-rises_from first [] k p rises here = absurd (omega (arith, slice_get_within [] k p here))
-rises_from first (x ∷ own) zero p rises here = let same : x ≡ p = (let h : Some x ≡ Some p = here in cc) in omega (arith, same, rises.0)
-rises_from first (x ∷ own) (suc k) p rises here = omega (arith, rises.0, rises_from (x + 1) own k p rises.1 here)
+-- each own position that wasn't used is at or above what was seen, and not below what no later one is
+pub record IsBehind (world : World) (walk : Walk) : Type 0 where
+  pub seen : (k p : ℕ) → walk.used ≤ k → slice_get world.own k ≡ Some p → walk.seen ≤ p
+  pub low : (k p : ℕ) → walk.used ≤ k → slice_get world.own k ≡ Some p → walk.low ≤ p
 
--- and a later one is no less
-rises_order : (first : ℕ) (own : List ℕ) (j k p q : ℕ) → Rises first own → j ≤ k → slice_get own j ≡ Some p → slice_get own k ≡ Some q → p ≤ q
-rises_order first [] j k p q rises order here there = absurd (omega (arith, slice_get_within [] j p here))
-rises_order first (x ∷ own) zero zero p q rises order here there =
-    let one : x ≡ p = (let h : Some x ≡ Some p = here in cc) in
-    let two : x ≡ q = (let h : Some x ≡ Some q = there in cc) in
-    omega (arith, one, two)
-rises_order first (x ∷ own) zero (suc k) p q rises order here there =
-    let one : x ≡ p = (let h : Some x ≡ Some p = here in cc) in
-    omega (arith, one, rises_from (x + 1) own k q rises.1 there)
-rises_order first (x ∷ own) (suc j) zero p q rises order here there = absurd (omega (arith, order))
-rises_order first (x ∷ own) (suc j) (suc k) p q rises order here there = rises_order (x + 1) own j k p q rises.1 (omega (arith, order)) here there
+-- where the first of the positions that an effect uses isn't below a number, nor is one used later
+pub bound_before : (world : World) (walk : Walk) (effect : Effect) (bound : ℕ) →
+    ((k p : ℕ) → walk.used ≤ k → k < walk.used + effect.used → slice_get world.own k ≡ Some p → bound ≤ p)
+    → ((k p : ℕ) → walk.used + effect.used ≤ k → slice_get world.own k ≡ Some p → bound ≤ p)
+    → (k p : ℕ) → walk.used ≤ k → slice_get world.own k ≡ Some p → bound ≤ p
+bound_before world walk effect bound now later k p used here = ⊎_elim
+    (λ less. now k p used less here)
+    (λ more. later k p more here)
+    (cases_lt k (walk.used + effect.used))
 
--- own positions rise, and replies use all of them
-record UsesAll (world : World) (walk : Walk) (replies : List Reply) : Type 0 where
-  pub first : ℕ
-  pub rises : Rises first world.own
-  pub all : length world.own ≤ (fold after walk replies).used
+-- an element of those behind some
+pub get_behind : (used k p : ℕ) (own : List ℕ) → slice_get own (used + k) ≡ Some p → slice_get (drop used own) k ≡ Some p
+get_behind zero k p own here = let e : zero + k ≡ k = omega arith in subst (λ (i : ℕ). slice_get own i ≡ Some p) e here
+get_behind (suc used) k p [] here = absurd (omega (arith, slice_get_within [] (suc used + k) p here))
+get_behind (suc used) k p (x ∷ own) here =
+    let e : suc used + k ≡ suc (used + k) = omega arith in
+    get_behind used k p own (subst (λ (i : ℕ). slice_get (x ∷ own) i ≡ Some p) e here)
 
--- the fronts of a walk's views were seen
-record HasSeenFronts (walk : Walk) : Type 0 where
-  pub each : (k n : ℕ) → walk.front_at k ≡ Some n → n ≤ walk.seen
+-- and of the first of them
+get_first : (count k p : ℕ) (own : List ℕ) → k < count → slice_get own k ≡ Some p → slice_get (take count own) k ≡ Some p
+get_first zero k p own within here = absurd (omega arith)
+get_first (suc count) k p [] within here = here
+get_first (suc count) zero p (x ∷ own) within here = here
+get_first (suc count) (suc k) p (x ∷ own) within here = get_first count k p own (omega arith) here
 
--- the replies after one
-uses_rest : (world : World) (walk : Walk) (r other : Reply) (replies : List Reply) → r ≡ other → UsesAll world walk (r ∷ replies) →
-    UsesAll world (after walk other) replies
-uses_rest world walk r other replies is uses = record {
-  first = uses.first;
-  rises = uses.rises;
-  all = subst (λ (x : Reply). length world.own ≤ (fold after (after walk x) replies).used) is uses.all;
+-- what holds of each of some positions holds of each of the own ones that they are
+taken_all : (P : ℕ → Type 0) (own positions : List ℕ) (used count k p : ℕ) → take count (drop used own) ≡ positions → All P positions → used ≤ k →
+    k < used + count → slice_get own k ≡ Some p → P p
+taken_all P own positions used count k p next all behind within here =
+    let index : ℕ = k - used in
+    let e : k ≡ used + index = omega arith in
+    let there : slice_get positions index ≡ Some p = subst (λ (l : List ℕ). slice_get l index ≡ Some p) next
+    (get_first count index p (drop used own) (omega arith) (get_behind used index p own (subst (λ (i : ℕ). slice_get own i ≡ Some p) e here))) in
+    subst P (get_or_from_slice_get positions index p 0 there) (All-get_or P positions index 0 (slice_get_within positions index p there) all)
+
+-- an element is there
+get_there : (positions : List ℕ) (k : ℕ) → k < length positions → slice_get positions k ≡ Some (get_or positions k 0)
+get_there [] k within = absurd (omega arith)
+get_there (x ∷ positions) zero within = refl
+get_there (x ∷ positions) (suc k) within = get_there positions k (omega arith)
+
+-- rising positions are all at or above where they begin
+pub rises_all : (first : ℕ) (positions : List ℕ) → Rises first positions → All (λ p. first ≤ p) positions
+rises_all first positions rises = All-from_get_or (λ p. first ≤ p) positions 0 (λ i within.
+    rises_from first positions i (get_or positions i 0) rises (get_there positions i within))
+
+-- the own positions behind an entry's that was shown
+entry_behind : (world : World) (walk : Walk) (show : ℕ → Reply) (reply : Reply) → ShowsEntry show → Rises world.first world.own →
+    IsEntry world walk show reply → IsBehind world walk
+entry_behind world walk show reply shows rises is = record {
+  seen = λ k p used here. let order = rises_order world.first world.own walk.used k is.0 p rises used is.2 here in let seen = is.3 in omega arith;
+  low = λ k p used here. let order = rises_order world.first world.own walk.used k is.0 p rises used is.2 here in let low = is.4 in omega arith;
 }
 
--- a reply shows a position that isn't above those used later
-placed_order : (world : World) (walk : Walk) (del : Bool) (reply : Reply) (replies : List Reply) (k p : ℕ) → UsesAll world walk replies →
-    (is : IsPlaced world walk del reply) → walk.used ≤ k → slice_get world.own k ≡ Some p → is.0 ≤ p
-placed_order world walk del reply replies k p uses is later here = rises_order uses.first world.own walk.used k is.0 p uses.rises later is.2 here
+-- where those behind a reply that uses no position are, so are those behind the walk
+led_behind : (world : World) (walk : Walk) (effect : Effect) → effect.used ≡ 0 → IsBehind world (led_by walk effect) → IsBehind world walk
+led_behind world walk effect none behind = record {
+  seen = λ k p used here. let later = behind.seen k p (omega arith) here in let least = le-max_left walk.seen effect.seen in omega arith;
+  low = λ k p used here. let later = behind.low k p (omega arith) here in let least = le-max_left walk.low effect.low in omega arith;
+}
 
--- each own position that replies have still to use is at or above what was seen
-seen_below : (world : World) (walk : Walk) (commands : List Command) (replies : List Reply) (k p : ℕ) → UsesAll world walk replies →
-    Replies world walk commands replies →
-    walk.used ≤ k → slice_get world.own k ≡ Some p → walk.seen ≤ p
-seen_below world walk commands [] k p uses allowed later here = absurd (omega (arith, uses.all, later, slice_get_within world.own k p here))
-seen_below world walk [] (r ∷ replies) k p uses allowed later here = absurd allowed
-seen_below world walk (Add src dst ∷ commands) (r ∷ replies) k p uses allowed later here =
-    omega (arith, allowed.0.3, placed_order world walk false r (r ∷ replies) k p uses allowed.0 later here)
-seen_below world walk (Del src dst ∷ commands) (r ∷ replies) k p uses allowed later here =
-    omega (arith, allowed.0.3, placed_order world walk true r (r ∷ replies) k p uses allowed.0 later here)
-seen_below world walk (View place ∷ commands) (r ∷ replies) k p uses allowed later here =
-    let n = allowed.0.0 in
-    let is = allowed.0.1 in
-    let rest = subst (λ (x : Reply). Replies world (after walk x) commands replies) is allowed.1 in
-    omega (
-      arith,
-      allowed.0.2.not_older,
-      seen_below world (after walk (Viewed place n)) commands replies k p
-          (uses_rest world walk r (Viewed place n) replies is uses) rest later here,
-    )
-seen_below world walk (Neigh place vertex ∷ commands) (r ∷ replies) k p uses allowed later here =
-    let is = allowed.0.2 in
-    let rest = subst (λ (x : Reply). Replies world (after walk x) commands replies) is allowed.1 in
-    seen_below world walk commands replies k p (uses_rest world walk r _ replies is uses) rest later here
+-- the same by what its effect is
+told_behind : (world : World) (walk : Walk) (reply : Reply) (effect : Effect) → effect_of walk.first reply ≡ effect → effect.used ≡ 0 →
+    IsBehind world (after walk reply) → IsBehind world walk
+told_behind world walk reply effect is none behind =
+    led_behind world walk effect none (subst (λ (e : Effect). IsBehind world (led_by walk e)) is behind)
 
--- a reply that rests on more than so many entries: no own position among these is used by it or later
-placed_above : (d : ℕ) (world : World) (walk : Walk) (command : Command) (del : Bool) (r : Reply) (replies : List Reply) (k p : ℕ) →
-    UsesAll world walk (r ∷ replies) →
-    IsPlaced world walk del r → d < rest_of walk.front_at command r → walk.used ≤ k → slice_get world.own k ≡ Some p → d ≤ p
-placed_above d world walk command del r replies k p uses is rests later here =
-    let more : d < rest_of walk.front_at command (showing del is.0) = subst (λ (x : Reply). d < rest_of walk.front_at command x) is.1 rests in
-    omega (arith, more, rest_of-showing walk.front_at command del is.0, placed_order world walk del r (r ∷ replies) k p uses is later here)
+-- and behind those of a load
+loaded_behind : (world : World) (walk : Walk) (name : List ℕ) (entries : List Edge) (reply : Reply) → IsLoaded world walk name entries reply →
+    IsBehind world (after walk reply) → IsBehind world walk
+loaded_behind world walk name entries reply is behind =
+    let effect : Effect = uses (length entries) in
+    let later : IsBehind world (led_by walk effect) = subst (λ (r : Reply). IsBehind world (led_by walk (effect_of walk.first r))) is.is behind in
+    record {
+      seen = bound_before world walk effect walk.seen
+          (λ k p used within here. taken_all (λ q. walk.seen ≤ q) world.own is.positions walk.used (length entries) k p is.next
+          (rises_all walk.seen is.positions is.rises) used within here)
+          (λ k p used here. let l = later.seen k p used here in let least = le-max_left walk.seen 0 in omega arith);
+      low = bound_before world walk effect walk.low
+          (λ k p used within here. taken_all (λ q. walk.low ≤ q) world.own is.positions walk.used (length entries) k p is.next is.not_low used within here)
+          (λ k p used here. let l = later.low k p used here in let least = le-max_left walk.low 0 in omega arith);
+    }
 
-used_above : (d : ℕ) (world : World) (walk : Walk) (c : Command) (commands : List Command) (r : Reply) (replies : List Reply) (k p : ℕ) →
-    UsesAll world walk (r ∷ replies) →
-    HasSeenFronts walk → Replies world walk (c ∷ commands) (r ∷ replies) → d < rest_of walk.front_at c r → walk.used ≤ k → slice_get world.own k ≡ Some p →
-    d ≤ p
-used_above d world walk (Add src dst) commands r replies k p uses fronts allowed rests later here =
-    placed_above d world walk (Add src dst) false r replies k p uses allowed.0 rests later here
-used_above d world walk (Del src dst) commands r replies k p uses fronts allowed rests later here =
-    placed_above d world walk (Del src dst) true r replies k p uses allowed.0 rests later here
-used_above d world walk (View place) commands r replies k p uses fronts allowed rests later here =
-    let n = allowed.0.0 in
-    let is = allowed.0.1 in
-    let more : d < n = subst (λ (x : Reply). d < rest_of walk.front_at (View place) x) is rests in
-    let rest = subst (λ (x : Reply). Replies world (after walk x) commands replies) is allowed.1 in
-    omega (
-      arith,
-      more,
-      seen_below world (after walk (Viewed place n)) commands replies k p
-          (uses_rest world walk r (Viewed place n) replies is uses) rest later here,
-    )
-used_above d world walk (Neigh place vertex) commands r replies k p uses fronts allowed rests later here =
-    let n = allowed.0.0 in
-    let at = allowed.0.1 in
-    let read : d < unwrap_or (walk.front_at place) 0 = subst (λ (x : Reply). d < rest_of walk.front_at (Neigh place vertex) x) allowed.0.2 rests in
-    let more : d < n = subst (λ (o : Option ℕ). d < unwrap_or o 0) at read in
-    omega (arith, more, fronts.each place n at, seen_below world walk (Neigh place vertex ∷ commands) (r ∷ replies) k p uses allowed later here)
+-- that a place is free uses no position
+frees_used : (place : Option ℕ) → (frees place).used ≡ 0
+frees_used None = refl
+frees_used (Some place) = refl
 
--- a walk goes on having seen its fronts
-fronts_go_on : (world : World) (walk : Walk) (c : Command) (r : Reply) → HasSeenFronts walk → IsReply world walk c r → HasSeenFronts (after walk r)
-fronts_go_on world walk (Add src dst) r fronts is = subst (λ (x : Reply). HasSeenFronts (after walk x)) (sym is.1) (record { each = fronts.each })
-fronts_go_on world walk (Del src dst) r fronts is = subst (λ (x : Reply). HasSeenFronts (after walk x)) (sym is.1) (record { each = fronts.each })
-fronts_go_on world walk (View place) r fronts is = subst (λ (x : Reply). HasSeenFronts (after walk x)) (sym is.1) (record {
-  each = λ k n at. front_after walk.front_at place is.0 k n is.0 (omega arith) (λ j m was. omega (arith, fronts.each j m was, is.2.not_older)) at;
-})
-fronts_go_on world walk (Neigh place vertex) r fronts is = subst (λ (x : Reply). HasSeenFronts (after walk x)) (sym is.2) fronts
+-- where the own positions are behind a walk after a reply, they are behind it before
+row_behind : (world : World) (walk : Walk) (entries : List Edge) (row : Row) (reply : Reply) → IsKind row → Rises world.first world.own →
+    IsRow world walk entries row reply → IsBehind world (after walk reply) → IsBehind world walk
+row_behind world walk entries (entry show) reply kind rises is behind = entry_behind world walk show reply kind rises is
+row_behind world walk entries offered reply kind rises is behind = ⊎_elim
+    (λ at. entry_behind world walk tells.Offered reply offered_entry rises at)
+    (λ busy. told_behind world walk reply _ (ap (λ (r : Reply). effect_of walk.first r) busy.is) refl behind)
+    is
+row_behind world walk entries (loaded name) reply kind rises is behind = loaded_behind world walk name entries reply is behind
+row_behind world walk entries (viewed place) reply kind rises is behind =
+    told_behind world walk reply _ (ap (λ (r : Reply). effect_of walk.first r) is.1) refl behind
+row_behind world walk entries (value place command) reply kind rises is behind =
+    told_behind world walk reply (uses 0) ((value_quiet world.vertices (take is.0 world.log) command reply is.2).effect walk.first) refl behind
+row_behind world walk entries (streamed place) reply kind rises is behind =
+    told_behind world walk reply _ (ap (λ (r : Reply). effect_of walk.first r) is.1) refl behind
+row_behind world walk entries (updated place most) reply kind rises is behind =
+    told_behind world walk reply _ (ap (λ (r : Reply). effect_of walk.first r) is.is) refl behind
+row_behind world walk entries (reached asked) reply kind rises is behind =
+    told_behind world walk reply _ (ap (λ (r : Reply). effect_of walk.first r) is.0) refl behind
+row_behind world walk entries synced reply kind rises is behind =
+    told_behind world walk reply _ (ap (λ (r : Reply). effect_of walk.first r) is.1) refl behind
+row_behind world walk entries (word told) reply kind rises is behind =
+    told_behind world walk reply (frees kind.place) (ap (λ (r : Reply). effect_of walk.first r) is ∙ kind.effect walk.first) (frees_used kind.place) behind
 
--- the same from any walk on
-keeps_from : (d : ℕ) (world : World) (walk : Walk) (commands : List Command) (replies : List Reply) (k p : ℕ) → UsesAll world walk replies →
-    HasSeenFronts walk →
-    Replies world walk commands replies → (fold after walk (cut_from d walk.front_at commands replies)).used ≤ k → slice_get world.own k ≡ Some p → d ≤ p
-keeps_from d world walk commands [] k p uses fronts allowed later here = absurd (omega (arith, uses.all, later, slice_get_within world.own k p here))
-keeps_from d world walk [] (r ∷ replies) k p uses fronts allowed later here = absurd allowed
-keeps_from d world walk (c ∷ commands) (r ∷ replies) k p uses fronts allowed later here =
-    elim (leb_tells (rest_of walk.front_at c r) d) [
+-- from the end of the replies back to where they begin
+all_behind : (world : World) (walk : Walk) (asked : List Asked) (replies : List Reply) → Rises world.first world.own → Replies world walk asked replies →
+    IsBehind world (fold after walk replies) → IsBehind world walk
+all_behind world walk asked [] rises allowed behind = behind
+all_behind world walk [] (reply ∷ replies) rises allowed behind = absurd allowed
+all_behind world walk (a ∷ asked) (reply ∷ replies) rises allowed behind =
+    row_behind world walk a.entries (row_of a.command) reply (row_kind a.command) rises allowed.0
+    (all_behind world (after walk reply) asked replies rises allowed.1 behind)
+
+-- a reply that rests on more than so many entries, since it saw that many: no own position used later is among these
+seen_above : (d : ℕ) (world : World) (walk : Walk) (reply : Reply) (effect : Effect) (k p : ℕ) → effect_of walk.first reply ≡ effect → effect.used ≡ 0 →
+    d < effect.seen → IsBehind world (after walk reply) → walk.used ≤ k → slice_get world.own k ≡ Some p → d ≤ p
+seen_above d world walk reply effect k p is none more behind used here =
+    let later : IsBehind world (led_by walk effect) = subst (λ (e : Effect). IsBehind world (led_by walk e)) is behind in
+    let above = later.seen k p (omega arith) here in
+    let most = le-max_right walk.seen effect.seen in
+    omega arith
+
+-- the same of an entry that was shown
+entry_above : (d : ℕ) (world : World) (walk : Walk) (show : ℕ → Reply) (row : Row) (reply : Reply) (k p : ℕ) → ShowsEntry show →
+    Rises world.first world.own → IsEntry world walk show reply → d < rest_of walk row reply → walk.used ≤ k → slice_get world.own k ≡ Some p → d ≤ p
+entry_above d world walk show row reply k p shows rises is more used here =
+    let rest : rest_of walk row reply ≡ is.0 + 1 = ap (λ (r : Reply). rest_of walk row r) is.1 ∙ shows.rest walk row is.0 in
+    let order = rises_order world.first world.own walk.used k is.0 p rises used is.2 here in
+    omega arith
+
+-- of a full ring
+busy_above : (d : ℕ) (world : World) (walk : Walk) (row : Row) (reply : Reply) (k p : ℕ) → IsBusy world walk reply → IsBehind world (after walk reply) →
+    d < rest_of walk row reply → walk.used ≤ k → slice_get world.own k ≡ Some p → d ≤ p
+busy_above d world walk row reply k p is behind more used here =
+    let head : d < is.head = subst (λ (r : Reply). d < rest_of walk row r) is.is more in
+    let later : IsBehind world (led_by walk (raises is.head)) =
+    subst (λ (r : Reply). IsBehind world (led_by walk (effect_of walk.first r))) is.is behind in
+    let above = later.low k p (omega arith) here in
+    let most = le-max_right walk.low is.head in
+    omega arith
+
+-- of some positions one is the last
+last_of_cons : (p : ℕ) (more : List ℕ) → (last : ℕ) × (last_of (p ∷ more) ≡ Some last)
+last_of_cons p [] = (p, refl)
+last_of_cons p (q ∷ more) = last_of_cons q more
+
+-- of the last of some positions that are own ones
+last_above : (d : ℕ) (world : World) (walk : Walk) (row : Row) (name : List ℕ) (positions : List ℕ) (k p : ℕ) → IsCut d world walk →
+    take (length positions) (drop walk.used world.own) ≡ positions → d < rest_of walk row (tells.Loaded name (length positions) (last_of positions)) →
+    walk.used + (length positions - 1) ≤ k → slice_get world.own k ≡ Some p → d ≤ p
+last_above d world walk row name [] k p cut next more used here = absurd (let seen = cut.seen in let rest : d < walk.seen = more in omega arith)
+last_above d world walk row name (q ∷ positions) k p cut next more used here =
+    let own = world.own in
+    let count : ℕ = length (q ∷ positions) in
+    let index : ℕ = count - 1 in
+    let last = last_of_cons q positions in
+    let is : last_of (q ∷ positions) ≡ Some last.0 = last.1 in
+    let rest : d < last.0 + 1 = subst (λ (o : Option ℕ). d < rest_of walk row (tells.Loaded name count o)) is more in
+    let at : slice_get own (walk.used + index) ≡ Some last.0 = get_dropped walk.used index last.0 own
+    (get_taken count index last.0 (drop walk.used own)
+    (subst (λ (l : List ℕ). slice_get l index ≡ Some last.0) (sym next) (last_get (q ∷ positions) last.0 index (omega arith) is))) in
+    let order = rises_order world.first own (walk.used + index) k last.0 p cut.rises used at here in
+    omega arith
+
+-- and of a load: its last entry isn't among these, nor is any used later
+loaded_above : (d : ℕ) (world : World) (walk : Walk) (name : List ℕ) (entries : List Edge) (row : Row) (reply : Reply) (k p : ℕ) → IsCut d world walk →
+    IsLoaded world walk name entries reply → d < rest_of walk row reply → walk.used + (length entries - 1) ≤ k → slice_get world.own k ≡ Some p → d ≤ p
+loaded_above d world walk name entries row reply k p cut is more used here =
+    let told : d < rest_of walk row (tells.Loaded name (length entries) (last_of is.positions)) = subst (λ (r : Reply). d < rest_of walk row r) is.is more in
+    let count = is.so_many in
+    last_above d world walk row name is.positions k p cut
+    (subst (λ (c : ℕ). take c (drop walk.used world.own) ≡ is.positions) (sym count) is.next)
+    (subst (λ (c : ℕ). d < rest_of walk row (tells.Loaded name c (last_of is.positions))) (sym count) told)
+    (omega arith) here
+
+-- a reply that rests on more than so many entries: of the own positions at or behind that of its last entry none is among these
+row_above : (d : ℕ) (world : World) (walk : Walk) (entries : List Edge) (row : Row) (reply : Reply) (k p : ℕ) → IsKind row → IsCut d world walk →
+    IsRow world walk entries row reply → IsBehind world (after walk reply) → d < rest_of walk row reply → walk.used + (length entries - 1) ≤ k →
+    slice_get world.own k ≡ Some p → d ≤ p
+row_above d world walk entries (entry show) reply k p kind cut is behind more used here =
+    entry_above d world walk show (entry show) reply k p kind cut.rises is more (omega arith) here
+row_above d world walk entries offered reply k p kind cut is behind more used here = ⊎_elim
+    (λ at. entry_above d world walk tells.Offered offered reply k p offered_entry cut.rises at more (omega arith) here)
+    (λ busy. busy_above d world walk offered reply k p busy behind more (omega arith) here)
+    is
+row_above d world walk entries (loaded name) reply k p kind cut is behind more used here =
+    loaded_above d world walk name entries (loaded name) reply k p cut is more used here
+row_above d world walk entries (viewed place) reply k p kind cut is behind more used here =
+    seen_above d world walk reply _ k p (ap (λ (r : Reply). effect_of walk.first r) is.1) refl
+    (subst (λ (r : Reply). d < rest_of walk (viewed place) r) is.1 more) behind (omega arith) here
+row_above d world walk entries (value place command) reply k p kind cut is behind more used here =
+    absurd (let rest = (value_quiet world.vertices (take is.0 world.log) command reply is.2).rest walk place command in
+    let shown = cut.inside.places place in let seen = cut.seen in omega arith)
+row_above d world walk entries (streamed place) reply k p kind cut is behind more used here =
+    seen_above d world walk reply _ k p (ap (λ (r : Reply). effect_of walk.first r) is.1) refl
+    (subst (λ (r : Reply). d < rest_of walk (streamed place) r) is.1 more) behind (omega arith) here
+row_above d world walk entries (updated place most) reply k p kind cut is behind more used here =
+    seen_above d world walk reply _ k p (ap (λ (r : Reply). effect_of walk.first r) is.is) refl
+    (subst (λ (r : Reply). d < rest_of walk (updated place most) r) is.is more) behind (omega arith) here
+row_above d world walk entries (reached asked) reply k p kind cut is behind more used here =
+    seen_above d world walk reply _ k p (ap (λ (r : Reply). effect_of walk.first r) is.0) refl
+    (subst (λ (r : Reply). d < rest_of walk (reached asked) r) is.0 more) behind (omega arith) here
+row_above d world walk entries synced reply k p kind cut is behind more used here =
+    seen_above d world walk reply _ k p (ap (λ (r : Reply). effect_of walk.first r) is.1) refl
+    (subst (λ (r : Reply). d < rest_of walk synced r) is.1 more) behind (omega arith) here
+row_above d world walk entries (word told) reply k p kind cut is behind more used here =
+    absurd (let rest : rest_of walk (word told) reply ≡ walk.seen = ap (λ (r : Reply). rest_of walk (word told) r) is ∙ kind.rest walk (word told) in
+    let seen = cut.seen in omega arith)
+
+-- where replies end: besides the own positions that they used there are at most some first ones of the next command's, and not all
+abbrev pub EndsAt : World → Walk → List Asked → List Reply → Type 0
+EndsAt world walk asked replies = length world.own ≤ (fold after walk replies).used + (length (next_entries (drop (length replies) asked)) - 1)
+
+-- what a cut keeps, from any walk on
+keeps_from : (d : ℕ) (world : World) (walk : Walk) (asked : List Asked) (replies : List Reply) (k p : ℕ) → IsCut d world walk →
+    Replies world walk asked replies → IsBehind world (fold after walk replies) → EndsAt world walk asked replies →
+    let cut = cut_from d walk (asked_commands asked) replies in
+    (fold after walk cut).used + (length (next_entries (drop (length cut) asked)) - 1) ≤ k → slice_get world.own k ≡ Some p → d ≤ p
+keeps_from d world walk asked [] k p is allowed behind ends used here =
+    absurd (let within = slice_get_within world.own k p here in omega arith)
+keeps_from d world walk [] (reply ∷ replies) k p is allowed behind ends used here = absurd allowed
+keeps_from d world walk (a ∷ asked) (reply ∷ replies) k p is allowed behind ends used here =
+    let later : IsBehind world (after walk reply) = all_behind world (after walk reply) asked replies is.rises allowed.1 behind in
+    elim (leb_tells (rest_of walk (row_of a.command) reply) d) [
       | inl h ↦
-          let more : (fold after (after walk r) (cut_from d (fronts_after walk.front_at r) commands replies)).used ≤ k = rw h.0 at later in
-          keeps_from d world (after walk r) commands replies k p (uses_rest world walk r r replies refl uses)
-          (fronts_go_on world walk c r fronts allowed.0) allowed.1
-          (subst (λ (f : ℕ → Option ℕ). (fold after (after walk r) (cut_from d f commands replies)).used ≤ k) (sym (front_at-after walk r)) more) here
+          let rest = cut_from d (after walk reply) (asked_commands asked) replies in
+          let more : (fold after (after walk reply) rest).used + (length (next_entries (drop (length rest) asked)) - 1) ≤ k = rw h.0 at used in
+          keeps_from d world (after walk reply) asked replies k p
+          (cut_after d world walk a.entries a.command reply is allowed.0 h.1) allowed.1 behind ends more here
       | inr h ↦
-          let more : walk.used ≤ k = rw h.0 at later in
-          used_above d world walk c commands r replies k p uses fronts allowed h.1 more here
+          let more : walk.used + (length a.entries - 1) ≤ k = rw h.0 at used in
+          row_above d world walk a.entries (row_of a.command) reply k p (row_kind a.command) is allowed.0 later h.1 more here
     ]
 
--- where replies use all own positions, each one past those that the cut replies use is behind the front of the cut: no reply on an entry before it is held back
-pub cut_keeps : (d : ℕ) (world : World) (commands : List Command) (replies : List Reply) → Rises world.first world.own →
-    length world.own ≤ (walked world.first replies).used → Replies world (start world.first) commands replies →
-    (k p : ℕ) → (walked world.first (cut_from d no_fronts commands replies)).used ≤ k → slice_get world.own k ≡ Some p → d ≤ p
-cut_keeps d world commands replies rises all allowed k p later here =
-    keeps_from d world (start world.first) commands replies k p (record { first = world.first; rises = rises; all = all })
-    (record { each = λ j n at. absurd (let h : None ≡ Some n = at in cc) }) allowed later here
+-- where no position from a place on is below a number, no more than those before it are
+pub few_below : (d bound : ℕ) (own : List ℕ) → ((k p : ℕ) → bound ≤ k → slice_get own k ≡ Some p → d ≤ p) → length (filter (λ p. nat_lt p d) own) ≤ bound
+few_below d bound [] above = omega arith
+few_below d zero (x ∷ own) above =
+    let first : d ≤ x = above 0 x (omega arith) refl in
+    elim (leb_tells (suc x) d) [
+      | inl h ↦ absurd (let below = h.1 in omega arith)
+      | inr h ↦ rw h.0 (few_below d zero own (λ k p least here. above (suc k) p (omega arith) here))
+    ]
+few_below d (suc bound) (x ∷ own) above =
+    let rest = few_below d bound own (λ k p least here. above (suc k) p (omega arith) here) in
+    elim (leb_tells (suc x) d) [
+      | inl h ↦ rw h.0 (omega arith)
+      | inr h ↦ rw h.0 (omega arith)
+    ]
+
+-- of the own positions below the front of a cut no more are left than the cut replies use and some first ones of the next command's, and not all
+pub cut_keeps : (d : ℕ) (world : World) (asked : List Asked) (replies : List Reply) → world.first ≤ d → d ≤ length world.log →
+    Rises world.first world.own → Replies world (start world.first) asked replies → IsBehind world (fold after (start world.first) replies) →
+    EndsAt world (start world.first) asked replies →
+    let cut = cut_from d (start world.first) (asked_commands asked) replies in
+    length (filter (λ p. nat_lt p d) world.own) ≤ (fold after (start world.first) cut).used + (length (next_entries (drop (length cut) asked)) - 1)
+cut_keeps d world asked replies old there rises allowed behind ends =
+    let cut = cut_from d (start world.first) (asked_commands asked) replies in
+    few_below d ((fold after (start world.first) cut).used + (length (next_entries (drop (length cut) asked)) - 1)) world.own
+    (λ k p used here. keeps_from d world (start world.first) asked replies k p
+    (record { inside = start_inside world (omega arith); rises = rises; there = there; seen = old }) allowed behind ends used here)

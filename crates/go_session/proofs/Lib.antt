@@ -1,11 +1,26 @@
 -- The lemmas on sessions.
 pub mod ListLemmas
+pub mod AskedLemmas
 pub mod WalkLemmas
+pub mod RowLemmas
+pub mod GrowthLemmas
+pub mod BrokenLemmas
+pub mod QuotaLemmas
+pub mod LeadLemmas
+pub mod SuitLemmas
+pub mod ComesLemmas
 pub mod StepLemmas
-pub mod ReplyLemmas
+pub mod TurnLemmas
 pub mod CutLemmas
 pub mod CutWalks
 pub mod CutKeeps
+pub mod DriveLemmas
+pub mod LawLemmas
+pub mod StreamLemmas
+pub mod HaltLemmas
+pub mod WithinLemmas
 pub mod BeginLemmas
 pub mod ListedLemmas
+pub mod TestLemmas
+pub mod SearchLemmas
 pub mod WritingLemmas

@@ -1,30 +1,94 @@
-// How many entries commands put.
-ghost use Rattle.std.specs.Prelude.{◌≡◌, ◌≤◌, length, drop};
-ghost use Rattle.go_script.specs.Places.{commands_of};
-ghost use Rattle.go_script.specs.declared.command.Command.{Command as Asked};
-ghost use Rattle.go_session.specs.Puts.{puts_of, puts_of_command};
+// Putting entries: one, one where there is room, and those of a file.
+ghost use Rattle.std.specs.Prelude.{◌≡◌, ◌∷◌, [], false, IfOk};
+ghost use Rattle.go_api.specs.Calls.{MayPut};
+ghost use Rattle.go_api.specs.Standing.{IsSound};
+ghost use Rattle.go_session.specs.Answers.{Answers, asking, showing};
+ghost use Rattle.go_script.specs.Commands.{entry_of};
+ghost use Rattle.go_script.specs.declared.command.Command.TheVariants as asks;
 
-use go_script::{Command, Script};
+use crate::asking::Outcome;
+use go_api::{Offer, Stop, Store};
+use go_report::{LastPosition, Reply};
+use go_text::Text;
+use go_word::Edge;
+use sqlite_items::Boxed;
+use std::alloc::{AllocError, Global};
 
-/// How many entries the commands of a script put, from one of them on.
-pub fn entries_in(script: &Script, from: usize) -> u64
-    requires { from ≤ length script.now }
-    ensures { result ≡ length (puts_of (drop from (commands_of script.now))) }
+// Puts an addition or a deletion.
+pub fn put<S: Store>(store: &mut S, del: bool, src: u32, dst: u32) -> Result<Outcome, Stop>
+    requires { MayPut (entry_of del src dst ∷ []) (S.stands store.old) }
+    ensures answers { Answers (S.looked store.old) (asking del src dst) [] result (S.stands store.old) (S.stands store.new) }
+    ensures sound { IsSound (S.stands store.new) }
+    ensures became { S.became store.old store.new }
 {
-    let mut count = 0;
-    for i in from..script.len() {
-        count += entries_of(script.command(i));
-    }
-    count
+    let position = store.put(Edge { del, src, dst })?;
+    Ok(Outcome::Told {
+        reply: showing(del, position),
+    })
 }
 
-// How many entries a command puts.
-fn entries_of(command: &Command) -> u64
-    ensures count { result ≡ length (puts_of_command command.now) }
-    ensures one { result ≤ 1 }
+// The reply that shows the position of an entry.
+fn showing(del: bool, position: u64) -> Reply
+    ensures { result ≡ showing del position }
 {
-    match command {
-        Command::Add { .. } | Command::Del { .. } => 1,
-        Command::View { .. } | Command::Neigh { .. } => 0,
+    if del {
+        Reply::Deleted { position }
+    } else {
+        Reply::Added { position }
     }
+}
+
+// Puts an addition where the ring has room.
+pub fn offer<S: Store>(store: &mut S, src: u32, dst: u32) -> Result<Outcome, Stop>
+    requires { MayPut (entry_of false src dst ∷ []) (S.stands store.old) }
+    ensures answers { Answers (S.looked store.old) (asks.Offer src dst) [] result (S.stands store.old) (S.stands store.new) }
+    ensures sound { IsSound (S.stands store.new) }
+    ensures became { S.became store.old store.new }
+{
+    let edge = Edge {
+        del: false,
+        src,
+        dst,
+    };
+    let reply = match store.offer(edge)? {
+        Offer::At { position } => Reply::Offered { position },
+        Offer::Busy { head, released } => Reply::Busy { head, released },
+    };
+    Ok(Outcome::Told { reply })
+}
+
+// Puts the entries of a file. The memory of the reply is taken before the first one is put.
+pub fn load<S: Store>(
+    store: &mut S,
+    alloc: Global,
+    name: &Text,
+    given: &[Edge],
+) -> Result<Outcome, Stop>
+    requires sound { IsSound (S.stands store.old) }
+    requires may { MayPut given.now (S.stands store.old) }
+    ensures answers { Answers (S.looked store.old) (asks.Load name.now) given.now result (S.stands store.old) (S.stands store.new) }
+    ensures sound { IsSound (S.stands store.new) }
+    ensures became { S.became store.old store.new }
+{
+    let Ok((name, mut last)) = memory_for(alloc, name) else {
+        return Err(Stop::Memory);
+    };
+    last.set(store.put_entries(given)?);
+    Ok(Outcome::Told {
+        reply: Reply::Loaded {
+            name,
+            count: given.len() as u64,
+            last,
+        },
+    })
+}
+
+// A copy of a name, and memory for a last position.
+fn memory_for(alloc: Global, name: &Text) -> Result<(Boxed<Text>, LastPosition), AllocError>
+    ensures { IfOk result (λ memory. memory.0 ≡ name.now) }
+{
+    let copy = Text::of(alloc, name.as_text())?;
+    let copy = Boxed::new(alloc, copy)?;
+    let last = LastPosition::new(alloc)?;
+    Ok((copy, last))
 }

@@ -1,1 +1,0 @@
--- What `note_front` keeps.
