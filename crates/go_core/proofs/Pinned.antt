@@ -106,7 +106,7 @@ module _ {S : Type 0} (pins put : S → List Pin) (has : S → Bool) where
       (few : count_by has parties ≤ 1) (keeps : KeepsPins archived (λ id. owns_name id (pins s) (put s)) old new)
       (are : ArePinned pins put has old.pins parties) where
     -- another party has no turn
-    no_turn : (k : ℕ) (t : S) → k ≢ i → get_elem? parties k ≡ some t → has t ≡ false
+    pub no_turn : (k : ℕ) (t : S) → k ≢ i → get_elem? parties k ≡ some t → has t ≡ false
     no_turn k t ne other = ⊎_elim (λ theirs. absurd (not_two has parties i k s t ne there other few mine theirs)) (λ free. free) (cases_Bool (has t))
 
     -- and a name of its pins isn't that of the party with the turn
@@ -117,7 +117,7 @@ module _ {S : Type 0} (pins put : S → List Pin) (has : S → Bool) where
         (cases_Bool (owns_name id (pins s) (put s)))
 
     -- so what another party holds is still there
-    still_held : All (IsPinnedBy pins put has new.pins) parties
+    pub still_held : All (IsPinnedBy pins put has new.pins) parties
     still_held k d within =
         let t = get_or parties k d in
         let other : get_elem? parties k ≡ some t = lookup-get_or parties k d within in
@@ -136,7 +136,7 @@ module _ {S : Type 0} (pins put : S → List Pin) (has : S → Bool) where
         }
 
     -- a new name was nobody's
-    nobody : (id : ℕ) → owns_name id (pins s) (put s) ≡ false → has_name id old.pins ≡ false → count_by (λ x. owns_name id (pins x) (put x)) parties ≡ 0
+    pub nobody : (id : ℕ) → owns_name id (pins s) (put s) ≡ false → has_name id old.pins ≡ false → count_by (λ x. owns_name id (pins x) (put x)) parties ≡ 0
     nobody id not' fresh =
         count-none (λ x. owns_name id (pins x) (put x)) parties
         (λ k d within.

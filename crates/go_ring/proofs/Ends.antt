@@ -1,5 +1,6 @@
 -- The end of a copy: what its seat has seen, which words the buffer has, and why it stopped.
-use Rattle.std.proofs.Common.{◌≡◌, ◌⊎◌, ℕ, ◌+◌, ◌%◌, ◌<◌, ◌≤◌, min, max, true, List, map, length, slice_index, sym, refl, ap, ◌∙◌, inl, inr, ⊎_elim, arith, subst}
+use Rattle.std.proofs.Common.{◌≡◌, ◌⊎◌, ℕ, ◌+◌, ◌%◌, ◌<◌, ◌≤◌, min, max, true, List, map}
+use Rattle.std.proofs.Common.{length, slice_index, sym, refl, ap, ◌∙◌, inl, inr, ⊎_elim, arith, subst}
 use Rattle.std.specs.Prelude.{All, Contains}
 use Rattle.std.proofs.lemmas.Bool.{cases_lt}
 use Rattle.std.proofs.lemmas.List.Elements.{All-contains}
@@ -27,7 +28,8 @@ use Rattle.go_ring.proofs.Copying.{gap_lasts}
 use Rattle.go_ring.proofs.Turns.{HasSureWord, EndsAt, Turned}
 
 -- a word that was read is that of its position
-word_told : (slots vertices p : ℕ) (seen : List Edge) (buf : List ℕ) (l : Load) → IsWordOf slots vertices seen l → l.at ≡ p → l.word ≡ slice_index buf (p % slots)
+word_told : (slots vertices p : ℕ) (seen : List Edge) (buf : List ℕ) (l : Load) → IsWordOf slots vertices seen l → l.at ≡ p →
+    l.word ≡ slice_index buf (p % slots)
     → IsWordOf slots vertices seen (record { at = p; word = slice_index buf (p % slots); sure = true })
 word_told slots vertices p seen buf l w at is = record {
   edge = w.edge;

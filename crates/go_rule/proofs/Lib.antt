@@ -14,3 +14,9 @@ pub mod WorkerSteps
 pub mod FlagSteps
 pub mod Endings
 pub mod Takings
+pub mod Turning
+pub mod TurnTakes
+pub mod TurnPins
+pub mod TurnGives
+pub mod TurnCalls
+pub mod TurnSamples

@@ -1,6 +1,8 @@
 -- Look-ups in lists, and lists that are looked at place by place.
-use Rattle.std.proofs.Common.{◌≡◌, ℕ, zero, suc, ◌<◌, Bool, true, false, cond, List, [], ◌∷◌, map, length, take, drop, sym, refl, ap, ◌∙◌, arith, subst}
-use Rattle.std.specs.Prelude.{All, Some, IsSome, slice_get, slice_index, filter, sum_by, ◌==◌, Option as Maybe}
+use Rattle.std.proofs.Common.{◌≡◌, ◌≢◌, ◌⊎◌, ℕ, zero, suc, ◌<◌, Bool, true, false, cond, List, [], ◌∷◌, map, length, take, drop, set, get_or, sym, refl}
+use Rattle.std.proofs.Common.{ap, ◌∙◌, inl, inr, ⊎_elim, arith, subst}
+use Rattle.std.specs.Prelude.{All, Some, IsSome, slice_get, slice_index, filter, find, is_some, sum_by, ◌==◌, Option as Maybe}
+use Rattle.std.proofs.lemmas.Bool.{cases_Bool, true≢false}
 use Rattle.std.proofs.lemmas.List.Sums.{sum_by-cons}
 use Rattle.std.proofs.lemmas.Option.{none-some, same_Some}
 use Rattle.std.proofs.lemmas.Bool.Decides.{nat_tests}
@@ -89,3 +91,43 @@ pub index_is : (xs : List ℕ) (k n : ℕ) → get_elem? xs k ≡ some n → sli
 index_is [] k n there = absurd (some-ne-none n (sym there))
 index_is (x ∷ xs) zero n there = some-injective x n there
 index_is (x ∷ xs) (suc k) n there = index_is xs k n there
+
+-- what a write to a list leaves
+pub get_set : {A : Type 0} (xs : List A) (i j : ℕ) (a b : A) → slice_get (set xs i a) j ≡ Some b → ((j ≡ i) × (a ≡ b)) ⊎ ((j ≢ i) × (slice_get xs j ≡ Some b))
+get_set [] i j a b there = absurd (none-some b there)
+get_set (x ∷ xs) zero zero a b there = inl (refl, same_Some a b there)
+get_set (x ∷ xs) zero (suc j) a b there = inr ((λ e. omega arith), there)
+get_set (x ∷ xs) (suc i) zero a b there = inr ((λ e. omega arith), there)
+get_set (x ∷ xs) (suc i) (suc j) a b there =
+    ⊎_elim (λ here. inl (ap suc here.0, here.1)) (λ other. let ne = other.0 in inr ((λ e. ne (omega arith)), other.1)) (get_set xs i j a b there)
+
+-- and what stands elsewhere stays
+pub get_set_other : {A : Type 0} (xs : List A) (i j : ℕ) (a : A) → j ≢ i → slice_get (set xs i a) j ≡ slice_get xs j
+get_set_other [] i j a ne = refl
+get_set_other (x ∷ xs) zero zero a ne = absurd (ne refl)
+get_set_other (x ∷ xs) zero (suc j) a ne = refl
+get_set_other (x ∷ xs) (suc i) zero a ne = refl
+get_set_other (x ∷ xs) (suc i) (suc j) a ne = get_set_other xs i j a (λ e. ne (ap suc e))
+
+-- a number is itself, and not another
+pub same_number : (k : ℕ) → (k == k) ≡ true
+same_number k = grind (arith, nat_tests)
+
+pub is_number : (a b : ℕ) → (a == b) ≡ true → a ≡ b
+is_number a b is = grind (arith, nat_tests)
+
+pub other_number : (a b : ℕ) → a ≢ b → (a == b) ≡ false
+other_number a b ne = ⊎_elim (λ is. absurd (ne (is_number a b is))) (λ none. none) (cases_Bool (a == b))
+
+-- where nothing is found, nothing passes
+pub none_passes : {A : Type 0} (test : A → Bool) (xs : List A) → is_some (find test xs) ≡ false → All (λ x. test x ≡ false) xs
+none_passes test [] none = All-nil (λ x. test x ≡ false)
+none_passes test (x ∷ xs) none =
+    ⊎_elim (λ (here : test x ≡ true). absurd (true≢false (sym (ap (λ b. is_some (cond b (Some x) (find test xs))) here) ∙ none)))
+    (λ (other : test x ≡ false).
+    All-cons (λ z. test z ≡ false) x xs other (none_passes test xs (sym (ap (λ b. is_some (cond b (Some x) (find test xs))) other) ∙ none)))
+    (cases_Bool (test x))
+
+-- two facts of each give a third
+pub all_both : {A : Type 0} (P Q R : A → Type 0) → ((x : A) → P x → Q x → R x) → (xs : List A) → All P xs → All Q xs → All R xs
+all_both P Q R both xs one two k d within = both (get_or xs k d) (one k d within) (two k d within)

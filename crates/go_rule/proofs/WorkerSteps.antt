@@ -60,7 +60,8 @@ module _ {P : Type 0} (m : Meaning P) (laws : IsLasting m) (key : Key P) where
           kept = old_kept m laws key s log parts by i d there live;
         })
 
-    unmoved_beside : (k : ℕ) → Beside m laws key s log parts by i d there (with_unmoved d) (set s.words k (slice_index s.words k)) []
+    -- a word is read that tells nothing
+    pub unmoved_beside : (k : ℕ) → Beside m laws key s log parts by i d there (with_unmoved d) (set s.words k (slice_index s.words k)) []
     unmoved_beside k =
         read_beside m laws key s log parts by i d there live k (unmoved d.core) d.told
         (record {

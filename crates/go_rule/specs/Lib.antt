@@ -5,4 +5,5 @@ pub mod Opening
 pub mod Rule
 pub mod Samples
 pub mod Steps
+pub mod Turns
 pub mod Views

@@ -2,6 +2,8 @@
 ghost use Rattle.go_rule.specs.Views.{sharing, shared, joining_seat, spent_view};
 ghost use Rattle.go_rule.specs.Steps.{LoadsHead, LoadsArchived, LoadsDurable, LoadsEnding, LoadsAhead, LoadsOrdered, LoadsFlag};
 ghost use Rattle.go_rule.specs.Steps.{Claims, Stores, StoresArchived, StoresDurable, StoresFlag, Abandons};
+ghost use Rattle.go_rule.specs.Meaning.{meaning};
+ghost use Rattle.go_rule.specs.Turns.{TakesTurn, GivesTurn};
 
 use crate::view::SeatView;
 use atomic_table::{Join, Play, Split};
@@ -219,4 +221,38 @@ pub struct Abandon<E> {
 
 impl<T, E: Stored> Play<Option<T>, SeatView<T>> for Abandon<E> {
     ghost then = { Abandons E.entry };
+}
+
+/// The place whose turn is taken or given back, and how the words of its ring are laid out.
+pub trait Turn {
+    ghost use Rattle.std.specs.Prelude.{ℕ};
+    ghost use Rattle.go_core.specs.Frame.{Frame};
+
+    ghost frame: { Frame };
+
+    ghost place: { ℕ };
+}
+
+impl Turn for Brand {
+    ghost frame = { record { slots = 0; base = 0; first = 0 } };
+
+    ghost place = { 0 };
+}
+
+/// A swap by which a turn is taken, with its part.
+pub struct Take<E> {
+    of: PhantomData<E>,
+}
+
+impl<T: Part, E: Turn> Play<Option<T>, SeatView<T>> for Take<E> {
+    ghost then = { TakesTurn (meaning T.state_of T.stands_for T.fits T.keeps T.is_spent T.mark_of T.recovers) E.frame E.place };
+}
+
+/// A store by which a turn is given back, with its part.
+pub struct Give<E> {
+    of: PhantomData<E>,
+}
+
+impl<T: Part, E: Turn> Play<Option<T>, SeatView<T>> for Give<E> {
+    ghost then = { GivesTurn (meaning T.state_of T.stands_for T.fits T.keeps T.is_spent T.mark_of T.recovers) E.place };
 }

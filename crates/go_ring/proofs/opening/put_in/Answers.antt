@@ -21,7 +21,8 @@ loop-part-preserved g c =
     let pushed = c.in-Ok.ensures.len in
     let popped = c.pop.ensures.len in
     let one : length (option_to_list c.pop.result) ≡ 1 = ap (λ z. length (option_to_list z)) c.in-Some.is in (
-      moves_next c.loop-part.slots.items c.push.new.self.items c.loop-part.parts.items c.pop.new.self.items c.in-Some.part (map Some c.args.parts.now.items) inv.0
+      moves_next c.loop-part.slots.items c.push.new.self.items c.loop-part.parts.items c.pop.new.self.items c.in-Some.part
+          (map Some c.args.parts.now.items) inv.0
           (c.pop.ensures.items ∙ ap (λ z. c.pop.new.self.items ++ option_to_list z) c.in-Some.is) c.in-Ok.ensures.items,
       c.pop.ensures.capacity ∙ inv.1,
       omega arith,

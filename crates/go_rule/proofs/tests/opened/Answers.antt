@@ -15,5 +15,5 @@ open-requires-clause-parts c =
     c.in_ok-push-2.ensures.items ∙ ap (λ (xs : List (Maybe PartState)). xs ++ Some c.part-file.result ∷ []) one
     ∙ ap (λ (p : PartState). Some empty_part ∷ Some p ∷ []) c.part-file.ensures
     in
-    sample_opens _ c.push-2.new.self.items refl refl (ap (λ v. v.items) c.of.ensures ∙ c.new.ensures.items) c.requires (c.of-2.ensures
+    sample_opens _ c.push-2.new.self.items 1 refl refl (ap (λ v. v.items) c.of.ensures ∙ c.new.ensures.items) c.requires (c.of-2.ensures
     ∙ c.part-file.ensures) all

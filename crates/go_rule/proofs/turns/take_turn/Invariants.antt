@@ -1,0 +1,6 @@
+-- `take_turn`: what the call picks.
+use Rattle.go_rule.specs.Views.{frame_of}
+use Rattle.go_rule.proofs.turns.take_turn.Given as goal
+
+abbrev pub ghosts-take_turn_as : goal.ghosts-take_turn_as
+ghosts-take_turn_as g a = record { frame = frame_of a.ring.now.table.shared.key; place = a.place }
