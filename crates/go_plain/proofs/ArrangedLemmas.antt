@@ -1,89 +1,111 @@
 -- How a plain store's ring and shards have its log between them, through each call.
-use Rattle.std.proofs.Common.{◌≡◌, ℕ, ◌+◌, ◌-◌, ◌<◌, ◌≤◌, ◌==◌, ◌%◌, ◌^◌, true, false, List, [], ◌∷◌, ◌++◌, length, drop, set, get_or, refl, ap, arith, sym}
-use Rattle.std.proofs.Common.{subst, ◌∙◌, length-append}
-use Rattle.std.specs.Prelude.{All}
-use Rattle.std.proofs.Math.ListN.{length-set}
+use Rattle.std.proofs.Common.{◌≡◌, ◌⊎◌, ℕ, ◌+◌, ◌-◌, ◌<◌, ◌≤◌, ◌%◌, List, [], ◌∷◌, ◌++◌}
+use Rattle.std.proofs.Common.{length, drop, get_or, refl, ap, arith, sym, subst, ◌∙◌, inr, length-append}
+use Rattle.std.specs.Prelude.{All, Contains}
 use Rattle.std.proofs.Math.Nat.{mod-lt}
 use Rattle.std.proofs.lemmas.List.{length-drop, drop_all}
-use Rattle.std.proofs.lemmas.List.Elements.{All-push, All-set}
+use Rattle.std.proofs.lemmas.List.Elements.{All-push}
 use Rattle.go_word.specs.declared.edge.Edge.{Edge}
 use Rattle.go_word.specs.declared.edge.TheConstants.{VERTEX_LIMIT}
 use Rattle.go_word.specs.Log.{IsWithin}
 use Rattle.go_word.specs.Word.{IsStorable}
 use Rattle.go_word.proofs.WordLaws.{IsStorable-IsWithin}
-use Rattle.go_api.specs.Standing.{ShowsSeen}
-use Rattle.go_api.specs.declared.place.Place.TheVariants.{View}
+use Rattle.go_durable.specs.declared.journal.Journal.{Journal}
 use Rattle.go_shard.specs.ShardState.{ShardState}
 use Rattle.go_shard.specs.Parts.{HasPart, HaveParts, IsBehind, AllHaveCome}
 use Rattle.go_shard.proofs.LongerLemmas.{parts_longer, parts_viewed}
 use Rattle.go_shard.proofs.MakingLemmas.{all_come}
-use Rattle.go_plain.specs.Plain.{PlainState, Fits, HasPending, ShowsLog, IsArranged}
+use Rattle.go_plain.specs.Owners.{IsSession, HasOwners}
+use Rattle.go_plain.specs.Plain.{PlainState, Fits, HasPending, HasSeats, HasSession, IsArranged, MaySit, pushed}
 use Rattle.go_plain.specs.Ring.{RingState}
-use Rattle.go_plain.specs.Views.{views_of}
-use Rattle.go_plain.proofs.PlacesLemmas.{shows_longer, views_set}
-use Rattle.go_plain.proofs.PastLemmas.{push_behind}
+use Rattle.go_plain.specs.Seats.{seat_at, seats_with, total_quota, all_views, IsSeated}
+use Rattle.go_plain.specs.declared.seat.Seat.{Seat}
+use Rattle.go_plain.proofs.PastLemmas.{push_behind, with_one, without_all}
+use Rattle.go_plain.proofs.SeatsLemmas.{all_seated, all_seated_longer, is_seated, quota_given, views_given, seats_long}
 
--- the log with one entry more
-abbrev pub pushed : {D : Type 0} → PlainState D → Edge → ℕ → ℕ → PlainState D
-pushed store e room quota = record store { log = store.log ++ e ∷ []; room = room; quota = quota }
-
--- a view at a place
-abbrev pub viewed_at : {D : Type 0} → PlainState D → ℕ → ℕ → PlainState D
-viewed_at store k front = record store { places = set store.places k (View front) }
+-- the owners of a log's entries, with one entry more
+owners_more : (count longer first number : ℕ) (log : List Edge) (owners : List ℕ) (e : Edge) → longer ≡ count → IsSession count number →
+    HasOwners count first log owners → HasOwners longer first (log ++ e ∷ []) (owners ++ number ∷ [])
+owners_more count longer first number log owners e same is has = record {
+  each = omega (arith, has.each, length-append log (e ∷ []), length-append owners (number ∷ []));
+  sessions = rw same (All-push (IsSession count) owners number has.sessions is);
+}
 
 module _ {D : Type 0} (store : PlainState D) (ring : RingState) (shards : List ShardState) (is : IsArranged store ring shards) where
-  -- one entry more
-  pub arranged_push : (e : Edge) (quota : ℕ) → IsWithin store.origin.vertices e → quota + 1 ≡ store.quota →
-      IsArranged (pushed store e ring.room quota) (record ring { entries = ring.entries ++ e ∷ [] }) shards
-  arranged_push e quota ids quotas =
+  -- one entry more of a session, which has something to put
+  pub arranged_push : (number : ℕ) (e : Edge) → HasSession store number → 1 ≤ (seat_at store.seats number).quota → IsWithin store.origin.vertices e →
+      IsArranged (pushed store number e) (with_one ring e number) shards
+  arranged_push number e session some ids =
       let more : length (store.log ++ e ∷ []) ≡ length store.log + 1 = length-append store.log (e ∷ []) in
       let pending = is.pending in
+      let was : Seat = seat_at store.seats number in
+      let seat : Seat = record was { quota = was.quota - 1 } in
+      let seated = is_seated store.origin.first (length store.log) store.seats number session is.seats.seated in
+      let still : IsSeated store.origin.first (length (store.log ++ e ∷ [])) seat = record {
+        from = seated.from;
+        to = omega (arith, seated.to, more);
+        count = seated.count;
+        shown = seated.shown;
+      } in
       record {
         fits = record {
           ids = All-push (IsWithin store.origin.vertices) store.log e is.fits.ids ids;
-          room = omega (arith, more, is.fits.room, quotas);
+          room = omega (arith, more, is.fits.room, some, quota_given store.seats number seat session);
           vertex_count = is.fits.vertex_count;
         };
         pending = record {
           old_moved = pending.old_moved;
           moved_within = omega (arith, more, pending.moved_within);
           entries = ap (λ (l : List Edge). l ++ e ∷ []) pending.entries ∙ push_behind store.moved store.log e pending.moved_within;
-          room = refl;
+          room = pending.room;
           vertices = pending.vertices;
-          some_room = rw pending.room pending.some_room;
+          some_room = pending.some_room;
         };
-        parts = parts_longer store.origin.vertices (length shards) store.moved (views_of store.places) store.log (e ∷ []) shards is.parts;
-        views = record {
-          count = is.views.count;
-          shown = λ k d below. shows_longer (length store.log) (length (store.log ++ e ∷ [])) _ (omega (arith, more)) (is.views.shown k d below);
+        parts = parts_longer store.origin.vertices (length shards) store.moved (all_views (seats_with store.seats number seat)) store.log (e ∷ []) shards
+            (parts_viewed store.origin.vertices (length shards) store.moved (length store.log) (all_views store.seats)
+            (all_views (seats_with store.seats number seat)) store.log shards refl
+            (views_given store.seats number (length store.log) seat session (λ n there. inr there)) is.parts);
+        seats = record {
+          seated = all_seated store.origin.first (length (store.log ++ e ∷ [])) store.seats number seat still
+              (all_seated_longer store.origin.first (length store.log) (length (store.log ++ e ∷ [])) store.seats (omega (arith, more)) is.seats.seated);
+          owners = owners_more (length store.seats) (length (seats_with store.seats number seat)) store.origin.first number store.log store.owners e
+              (seats_long store.seats number seat) session is.seats.owners;
         };
       }
 
-  -- a view of the whole log
-  pub arranged_view : (k front : ℕ) → front ≡ length store.log → IsArranged (viewed_at store k front) ring shards
-  arranged_view k front whole = record {
-    fits = record { ids = is.fits.ids; room = is.fits.room; vertex_count = is.fits.vertex_count };
-    pending = pending is.pending;
-    parts = parts_viewed store.origin.vertices (length shards) store.moved front (views_of store.places)
-        (views_of (set store.places k (View front))) store.log shards whole
-        (λ n view. views_set store.places k front n view) is.parts;
-    views = record {
-      count = length-set store.places k (View front) ∙ is.views.count;
-      shown = All-set (ShowsSeen (length store.log)) store.places k (View front) (omega (arith, whole)) is.views.shown;
-    };
-  } where
-    pending : HasPending store ring → HasPending (viewed_at store k front) ring
-    pending it = record {
-      old_moved = it.old_moved;
-      moved_within = it.moved_within;
-      entries = it.entries;
-      room = it.room;
-      vertices = it.vertices;
-      some_room = it.some_room;
-    }
+  -- another seat of a session
+  pub arranged_seat : (number : ℕ) (seat : Seat) → HasSession store number → MaySit store (seat_at store.seats number) seat →
+      IsArranged (record store { seats = seats_with store.seats number seat }) ring shards
+  arranged_seat number seat session may =
+      let pending = is.pending in
+      record {
+        fits = record {
+          ids = is.fits.ids;
+          room = omega (arith, is.fits.room, may.quota, quota_given store.seats number seat session);
+          vertex_count = is.fits.vertex_count;
+        };
+        pending = record {
+          old_moved = pending.old_moved;
+          moved_within = pending.moved_within;
+          entries = pending.entries;
+          room = pending.room;
+          vertices = pending.vertices;
+          some_room = pending.some_room;
+        };
+        parts = parts_viewed store.origin.vertices (length shards) store.moved (length store.log) (all_views store.seats)
+            (all_views (seats_with store.seats number seat)) store.log shards refl
+            (views_given store.seats number (length store.log) seat session may.views) is.parts;
+        seats = record {
+          seated = all_seated store.origin.first (length store.log) store.seats number seat may.seated is.seats.seated;
+          owners = record {
+            each = is.seats.owners.each;
+            sessions = rw (seats_long store.seats number seat) is.seats.owners.sessions;
+          };
+        };
+      }
 
   -- the shards are behind the ring's entries
-  pub shards_behind : (views : List ℕ) (newest : List Edge) → newest ≡ ring.entries → views ≡ views_of store.places →
+  pub shards_behind : (views : List ℕ) (newest : List Edge) → newest ≡ ring.entries → views ≡ all_views store.seats →
       IsBehind store.origin.vertices (length shards) store.moved views store.log newest shards
   shards_behind views newest are fronts = record {
     parts = rw fronts is.parts;
@@ -93,16 +115,31 @@ module _ {D : Type 0} (store : PlainState D) (ring : RingState) (shards : List S
     small = omega (arith, is.fits.room);
   }
 
-  -- shards that have come further
-  pub arranged_caught : (new : List ShardState) (views : List ℕ) → views ≡ views_of store.places →
-      HaveParts store.origin.vertices (length shards) store.moved views store.log new → IsArranged store ring new
-  arranged_caught new views fronts parts = record { fits = is.fits; pending = is.pending; parts = rw (parts.count, sym fronts) parts; views = is.views }
+  -- another log file, and shards that have their parts too
+  pub arranged_with : (journal : Journal D) (cuts : List ℕ) (new : List ShardState) →
+      HaveParts store.origin.vertices (length shards) store.moved (all_views store.seats) store.log new →
+      IsArranged (record store { journal = journal; cuts = cuts }) ring new
+  arranged_with journal cuts new parts =
+      let pending = is.pending in
+      record {
+        fits = record { ids = is.fits.ids; room = is.fits.room; vertex_count = is.fits.vertex_count };
+        pending = record {
+          old_moved = pending.old_moved;
+          moved_within = pending.moved_within;
+          entries = pending.entries;
+          room = pending.room;
+          vertices = pending.vertices;
+          some_room = pending.some_room;
+        };
+        parts = rw parts.count parts;
+        seats = record { seated = is.seats.seated; owners = is.seats.owners };
+      }
 
   -- all entries were moved out of the ring
-  pub arranged_moved : (new : List ShardState) (views : List ℕ) (head : ℕ) → views ≡ views_of store.places →
-      HaveParts store.origin.vertices (length shards) store.moved views store.log new → AllHaveCome head new → head ≡ length store.log →
-      IsArranged (record store { moved = head; room = ring.room }) (record ring { entries = [] }) new
-  arranged_moved new views head fronts parts come whole =
+  pub arranged_moved : (cuts : List ℕ) (new : List ShardState) (head : ℕ) →
+      HaveParts store.origin.vertices (length shards) store.moved (all_views store.seats) store.log new → AllHaveCome head new → head ≡ length store.log →
+      IsArranged (record store { moved = head; cuts = cuts }) (without_all ring) new
+  arranged_moved cuts new head parts come whole =
       let v = store.origin.vertices in
       record {
         fits = record { ids = is.fits.ids; room = is.fits.room; vertex_count = is.fits.vertex_count };
@@ -110,14 +147,14 @@ module _ {D : Type 0} (store : PlainState D) (ring : RingState) (shards : List S
           old_moved = omega (arith, is.pending.old_moved, is.pending.moved_within, whole);
           moved_within = omega (arith, whole);
           entries = sym (drop_all head store.log (omega (arith, whole)));
-          room = refl;
+          room = is.pending.room;
           vertices = is.pending.vertices;
-          some_room = rw is.pending.room is.pending.some_room;
+          some_room = is.pending.some_room;
         };
-        parts = subst (λ (n : ℕ). HaveParts v (length new) n (views_of store.places) store.log new) (sym whole)
-            (all_come v (length shards) store.moved (views_of store.places) store.log new (rw (sym fronts) parts)
+        parts = subst (λ (n : ℕ). HaveParts v (length new) n (all_views store.seats) store.log new) (sym whole)
+            (all_come v (length shards) store.moved (all_views store.seats) store.log new parts
             (subst (λ (n : ℕ). AllHaveCome n new) whole come));
-        views = record { count = is.views.count; shown = is.views.shown };
+        seats = record { seated = is.seats.seated; owners = is.seats.owners };
       }
 
   -- how many entries the ring has
@@ -139,10 +176,10 @@ module _ {D : Type 0} (store : PlainState D) (ring : RingState) (shards : List S
 
   -- the shard of a vertex
   pub shard_part : (vertex count : ℕ) (shard : ShardState) → count ≡ length shards → shard ≡ get_or shards (vertex % count) shard →
-      HasPart store.origin.vertices (length shards) (vertex % count) store.moved (views_of store.places) store.log shard
+      HasPart store.origin.vertices (length shards) (vertex % count) store.moved (all_views store.seats) store.log shard
   shard_part vertex count shard are found =
       let below : vertex % count < count = mod-lt vertex (omega (arith, are, is.parts.some)) in
-      subst (HasPart store.origin.vertices (length shards) (vertex % count) store.moved (views_of store.places) store.log) (sym found)
+      subst (HasPart store.origin.vertices (length shards) (vertex % count) store.moved (all_views store.seats) store.log) (sym found)
       (is.parts.each (vertex % count) shard (omega (arith, below, are)))
 
 -- entries over few vertices can be stored

@@ -136,6 +136,7 @@ IsChained_push entries latest prior e chained inside = record {
 -- a ring with one more entry, as its fields have it
 pub record HasPushed (old new : Inside) (e : Edge) (skip : Skip) : Type 0 where
   pub entries : new.entries.items ≡ old.entries.items ++ e ∷ []
+  pub owners : length new.owners.items ≡ length old.owners.items + 1
   pub latest : new.latest.items ≡ set old.latest.items e.src (length old.entries.items + 1)
   pub prior : new.prior.items ≡ old.prior.items ++ get_or old.latest.items e.src 0 ∷ []
   pub skips : new.skips.items ≡ old.skips.items ++ skip ∷ []
@@ -158,6 +159,7 @@ kept_push old new e skip kept short ids pushed next =
         small = rw pushed.room kept.sound.small;
         few = omega (arith, vertices, kept.sound.few);
         within = omega (arith, long, short, pushed.room);
+        owned = omega (arith, pushed.owners, long, kept.sound.owned);
         ids = rw (vertices, pushed.entries) (All-push (IsWithin (length old.latest.items)) entries e kept.sound.ids ids);
       };
       chained = rw (pushed.entries, pushed.latest, pushed.prior) chain;
@@ -182,6 +184,7 @@ told_none entries latest told s gone was =
 -- a ring without entries, as its fields have it
 pub record HasCleared (old new : Inside) : Type 0 where
   pub entries : new.entries.items ≡ []
+  pub owners : new.owners.items ≡ []
   pub latest : length new.latest.items ≡ length old.latest.items
   pub gone : (s : ℕ) → get_or new.latest.items s 0 ≡ (if raw old.entries.items s == 0 then get_or old.latest.items s 0 else 0)
   pub prior : new.prior.items ≡ []
@@ -198,6 +201,7 @@ kept_clear old new kept cleared = record {
     small = rw cleared.room kept.sound.small;
     few = omega (arith, cleared.latest, kept.sound.few);
     within = rw cleared.entries (omega arith);
+    owned = rw (cleared.owners, cleared.entries) refl;
     ids = rw cleared.entries (All-nil (IsWithin (length new.latest.items)));
   };
   chained = rw (cleared.entries, cleared.prior) (record {
@@ -226,5 +230,5 @@ kept_mark ring mark kept whole = record {
     each = kept.skipping.each;
     newest = λ k from below. absurd (omega (arith, from, below, whole));
   };
-  memory = record { entries = kept.memory.entries; prior = kept.memory.prior; skips = kept.memory.skips };
+  memory = record { entries = kept.memory.entries; owners = kept.memory.owners; prior = kept.memory.prior; skips = kept.memory.skips };
 }

@@ -1,165 +1,505 @@
--- Lemmas on what the handle of a plain store stands for, before and after its calls.
-use Rattle.std.proofs.Common.{◌≡◌, ℕ, ◌+◌, ◌-◌, ◌<◌, ◌≤◌, ◌^◌, List, [], ◌∷◌, ◌++◌, length, take, set, get_or, Option, refl, ap, arith, sym, subst, ◌∙◌}
-use Rattle.std.proofs.Common.{length-append, take_all}
-use Rattle.std.specs.Prelude.{All, Result, Ok, Err}
-use Rattle.std.proofs.Math.Seq.{take-append_seam}
-use Rattle.std.proofs.lemmas.List.{length-drop}
+-- Lemmas on what the handle of a session stands for, before and after its calls.
+use Rattle.std.proofs.Common.{◌≡◌, ◌≢◌, ℕ, ◌+◌, ◌-◌, ◌<◌, ◌≤◌, ◌^◌, true, List, [], ◌∷◌, ◌++◌}
+use Rattle.std.proofs.Common.{length, take, drop, set, get_or, refl, ap, arith, sym, subst, ◌∙◌, inr}
+use Rattle.std.proofs.Common.{length-append, take_all, inl, false, ◌==◌}
+use Rattle.std.proofs.Math.ListN.{length-set}
+use Rattle.std.specs.Prelude.{All, min, Result, Ok, Err}
+use Rattle.std.proofs.lemmas.Bool.Decides.{eqb_tells}
+use Rattle.std.proofs.lemmas.List.{length-drop, length-take, length-take-le, take-append-le, take-take}
+use Rattle.std.proofs.lemmas.List.Elements.{All-push, All-take}
 use Rattle.go_word.specs.declared.edge.Edge.{Edge}
 use Rattle.go_word.specs.Log.{IsWithin}
-use Rattle.go_api.specs.Alone.{positions}
-use Rattle.go_api.specs.Standing.{SeesLog, OwnsPositions, IsSound, ShowsSeen}
+use Rattle.go_api.specs.Standing.{Standing, Terms, Onward, Kept, SeesLog, OwnsPositions, IsSound, ShowsUpTo}
+use Rattle.go_api.specs.Calls.{IsFront, IsPut, IsPutStopped, IsStopped, IsPlacedAt, IsViewed}
+use Rattle.go_api.specs.Calls.{IsStarted, PutsNothing, OnlySees, IsBusy, HasReached, HasNotReached}
+use Rattle.go_api.specs.Calls.{IsSynced, IsUpdated, IsListAt, IsReadStopped, Holds}
 use Rattle.go_word.specs.Neighbours.{neighbours}
-use Rattle.go_api.specs.Calls.{IsPut, IsPutStopped, IsViewed, ListsNeighbours, IsReadStopped}
-use Rattle.go_api.specs.declared.place.TheConstants.{PLACES}
-use Rattle.go_api.specs.declared.place.Place.TheVariants.{Free, View}
+use Rattle.go_api.specs.declared.place.Place.{Place}
+use Rattle.go_api.specs.declared.place.Place.TheVariants.{Free, View, Stream}
 use Rattle.go_api.specs.declared.stop.Stop.{Stop}
 use Rattle.go_api.specs.declared.stop.Stop.TheVariants as stops
-use Rattle.go_api.proofs.StandingLemmas.{onward_self, read_self}
-use Rattle.go_api.proofs.AloneLemmas.{positions_rise, positions-push, positions_below, length-positions}
+use Rattle.go_api.proofs.StandingLemmas.{onward_self, onward_on, sees_self, sees_on, read_self}
+use Rattle.go_disk.specs.Device.{Device}
+use Rattle.go_durable.specs.Journal.{journal_front, is_spent}
+use Rattle.go_plain.specs.Owners.{owned, put_by, HasOwners}
 use Rattle.go_shard.specs.ShardState.{ShardState}
-use Rattle.go_plain.specs.Plain.{PlainState, standing_of, IsArranged, HasMadeRoom}
+use Rattle.go_plain.specs.Plain.{PlainState, HasSession, IsStore, StaysStore, standing_as, standing_of, IsArranged}
+use Rattle.go_plain.specs.Plain.{IsPlain, OnlyMoves, HasMadeRoom, IsMovedOut, MaySit, pushed}
+use Rattle.go_plain.specs.Plain.{seen_by, kept_at, IsOnlyFlushed, HasRead}
 use Rattle.go_plain.specs.Ring.{RingState}
-use Rattle.go_plain.proofs.PlacesLemmas.{view_read}
+use Rattle.go_plain.specs.Seats.{seat_at, seats_with, IsSeated}
+use Rattle.go_plain.specs.declared.seat.Seat.{Seat}
+use Rattle.go_plain.proofs.OwnersLemmas.{owned-append, put_by-append, owned_one, put_by_one, owned_rises, owned_below, length-owned}
 use Rattle.go_plain.proofs.PastLemmas.{push_behind}
+use Rattle.go_plain.proofs.ArrangedLemmas.{ring_length}
+use Rattle.go_plain.proofs.PlacesLemmas.{view_read, shown_within, shows_longer, shown_set, kept_view}
+use Rattle.go_plain.proofs.SeatsLemmas.{seat_given}
+use Rattle.go_plain.proofs.StoreLemmas.{tells_risen}
 
--- what a plain store's handle stands for is sound
-pub sound_at : {D : Type 0} (store : PlainState D) → store.origin.first ≤ length store.log → length store.log < 2 ^ 32 →
-    All (IsWithin store.origin.vertices) store.log → length store.places ≡ PLACES →
-    All (ShowsSeen (length store.log)) store.places → IsSound (standing_of store)
-sound_at store first short ids count shown = record {
-  sees = record { old_seen = first; floor_seen = omega arith; seen_known = omega arith; short = short; ids = ids };
-  owns = record {
-    rises = positions_rise store.origin.first (length store.log - store.origin.first);
-    known = positions_below store.origin.first (length store.log - store.origin.first) (length store.log) (omega (arith, first));
-    put = length-positions store.origin.first (length store.log - store.origin.first) ∙ sym (length-drop store.origin.first store.log);
-  };
-  count = count;
-  shown = shown;
-}
+-- a later view of a log begins with what an earlier one saw of it
+sees_later : (log : List Edge) (seen later : ℕ) → seen ≤ later → later ≤ length log → take (length (take seen log)) (take later log) ≡ take seen log
+sees_later log seen later le within =
+    ap (λ (n : ℕ). take n (take later log)) (length-take-le seen log (omega (arith, le, within))) ∙ take-take seen later log le
 
--- a plain store's handle is sound
-pub plain_sound : {D : Type 0} (store : PlainState D) (ring : RingState) (shards : List ShardState) → IsArranged store ring shards → IsSound (standing_of store)
-plain_sound store ring shards is =
-    sound_at store (omega (arith, is.pending.old_moved, is.pending.moved_within)) (omega (arith, is.fits.room)) is.fits.ids is.views.count is.views.shown
+-- numbers that a test finds equal
+equal_by : (n m : ℕ) → (n == m) ≡ true → n ≡ m
+equal_by n m is = elim (eqb_tells n m) [
+  | inl h ↦ h.1
+  | inr h ↦ absurd (let g : true ≡ false = sym is ∙ h.0 in cc)
+]
 
--- a view was taken
-pub viewed : {D : Type 0} (store now : PlainState D) (ring : RingState) (shards : List ShardState) (place front : ℕ) → IsArranged store ring shards →
-    store ≡ now → front ≡ length store.log →
-    IsViewed place front (standing_of now) (standing_of (record store { places = set store.places place (View front) }))
-viewed {D} store now ring shards place front arranged is whole =
-    let next : PlainState D = record store { places = set store.places place (View front) } in
-    let from_store : IsViewed place front (standing_of store) (standing_of next) = record {
-      onward = record {
+module _ {D : Type 0} (device : Device D) where
+  -- what the handle of a session that is seated stands for is sound
+  pub sound_at : (store : PlainState D) (number : ℕ) (seat : Seat) → IsSeated store.origin.first (length store.log) seat →
+      HasOwners (length store.seats) store.origin.first store.log store.owners → length store.log < 2 ^ 32 →
+      All (IsWithin store.origin.vertices) store.log → IsSound (standing_as device store number seat)
+  sound_at store number seat seated owners short ids =
+      let long : length (take seat.seen store.log) ≡ seat.seen = length-take-le seat.seen store.log seated.to in
+      record {
+        sees = record {
+          old_seen = seated.from;
+          floor_seen = omega (arith, long);
+          seen_known = omega (arith, long, seated.to);
+          short = omega (arith, long, seated.to, short);
+          ids = All-take (IsWithin store.origin.vertices) seat.seen store.log ids;
+        };
+        owns = record {
+          rises = owned_rises store.origin.first number store.owners;
+          known = owned_below store.origin.first number (length store.log) store.owners (omega (arith, owners.each));
+          put = length-owned store.origin.first number store.owners (drop store.origin.first store.log)
+              (omega (arith, owners.each, length-drop store.origin.first store.log));
+        };
+        count = seated.count;
+        shown = seated.shown;
+      }
+
+  -- the handle of each session of a store is sound
+  pub store_sound : (store : PlainState D) (ring : RingState) (shards : List ShardState) → IsArranged store ring shards → (number : ℕ) →
+      HasSession store number →
+      IsSound (standing_of device store number)
+  store_sound store ring shards is number session =
+      sound_at store number (seat_at store.seats number)
+      (is.seats.seated (number - 1) _ (omega (arith, session.from, session.to))) is.seats.owners (omega (arith, is.fits.room)) is.fits.ids
+
+  -- what holds of every store, by how its parts keep its log
+  pub plain_store : (store : PlainState D) (ring : RingState) (shards : List ShardState) → IsPlain device store ring shards → IsStore device store
+  plain_store store ring shards is = record {
+    sound = store_sound store ring shards is.arranged;
+    owners = is.arranged.seats.owners;
+    risen = tells_risen device store ring shards is;
+  }
+
+  pub stays_store : (old new : PlainState D) (ring : RingState) (shards : List ShardState) → length new.seats ≡ length old.seats →
+      IsPlain device new ring shards → StaysStore device old new
+  stays_store old new ring shards long is = record { is_store = plain_store new ring shards is; sessions = long }
+
+  -- a session that there was is one still
+  pub still_session : (old new : PlainState D) (number : ℕ) → length new.seats ≡ length old.seats → HasSession old number → HasSession new number
+  still_session old new number long session = record { from = session.from; to = omega (arith, session.to, long) }
+
+  pub still_sound : (old new : PlainState D) (number : ℕ) → StaysStore device old new → HasSession old number → IsSound (standing_of device new number)
+  still_sound old new number stays session = stays.is_store.sound number (still_session old new number stays.sessions session)
+
+  -- over some calls, and then some more
+  pub stays_on : (one two three : PlainState D) → StaysStore device one two → StaysStore device two three → StaysStore device one three
+  stays_on one two three first later = record { is_store = later.is_store; sessions = later.sessions ∙ first.sessions }
+
+  -- what a session's handle stands for, once it is seated otherwise
+  pub standing_given : (store : PlainState D) (number : ℕ) (seat : Seat) → HasSession store number → (P : Standing → Type 0) →
+      P (standing_as device store number seat) → P (standing_of device (record store { seats = seats_with store.seats number seat }) number)
+  standing_given store number seat session P holds =
+      subst (λ (s : Seat). P (standing_as device store number s)) (sym (seat_given store.seats number seat session)) holds
+
+  -- a session sees the whole log
+  seeing : (store : PlainState D) (number : ℕ) (seat later : Seat) → seat.seen ≤ length store.log → later.seen ≡ length store.log →
+      Onward (standing_as device store number seat) (standing_as device store number later)
+  seeing store number seat later within whole =
+      let long : length (take seat.seen store.log) ≡ seat.seen = length-take-le seat.seen store.log within in
+      record {
         same_terms = refl;
-        seen_more = take_all (length store.log) store.log (omega arith);
-        seen_longer = omega arith;
-        floor_later = omega arith;
+        seen_more = sees_later store.log seat.seen later.seen (omega (arith, within, whole)) (omega (arith, whole));
+        seen_longer = omega (arith, long, within, whole, length-take-le later.seen store.log (omega (arith, whole)));
+        floor_later = omega (arith, within, whole);
         known_later = omega arith;
         durable_later = omega arith;
         met_stays = λ met. met;
-      };
-      puts = record { same_own = refl; same_edges = refl; same_quota = refl };
-      placed = refl;
-      not_older = omega (arith, whole);
-      above_own = positions_below store.origin.first (length store.log - store.origin.first) front (omega (
-        arith,
-        whole,
-        arranged.pending.old_moved,
-        arranged.pending.moved_within,
-      ));
-      is_end = omega (arith, whole);
-      floor = omega (arith, whole);
-    } in
-    subst (λ (s : PlainState D). IsViewed place front (standing_of s) (standing_of next)) is from_store
+      }
 
--- an entry was put, perhaps after the ring's entries were moved out
-pub was_put : {D : Type 0} (old mid new : PlainState D) (e : Edge) → IsSound (standing_of old) → HasMadeRoom old mid (Ok tt) →
-    1 ≤ old.quota → new ≡ record mid { log = mid.log ++ e ∷ []; quota = mid.quota - 1 } → IsPut e (length mid.log) (standing_of old) (standing_of new)
-was_put {D} old mid new e sound made some put =
-    let same = made.same in
-    let no_less = made.no_less in
-    let met = made.met_stays in
-    let first : old.origin.first ≤ length old.log = omega (arith, sound.sees.old_seen, sound.sees.floor_seen) in
-    let moved : PlainState D = record old { journal = mid.journal; moved = mid.moved } in
-    let next : PlainState D = record moved { log = old.log ++ e ∷ []; quota = old.quota - 1 } in
-    let is : new ≡ next = put ∙ ap (λ (s : PlainState D). record s { log = s.log ++ e ∷ []; quota = s.quota - 1 }) same in
-    let log : length mid.log ≡ length old.log = ap (λ (s : PlainState D). length s.log) same in
-    let more : length (old.log ++ e ∷ []) ≡ length old.log + 1 = length-append old.log (e ∷ []) in
-    let count : length (old.log ++ e ∷ []) - old.origin.first ≡ (length old.log - old.origin.first) + 1 = omega (arith, more, first) in
-    let from_old : IsPut e (length old.log) (standing_of old) (standing_of next) = record {
-      onward = record {
-        same_terms = refl;
-        seen_more = take-append_seam old.log (e ∷ []);
-        seen_longer = omega (arith, more);
-        floor_later = omega (arith, more);
-        known_later = omega (arith, more);
-        durable_later = no_less;
-        met_stays = met;
-      };
-      owned = ap (positions old.origin.first) count ∙ positions-push old.origin.first (length old.log - old.origin.first)
-          ∙ ap (λ (n : ℕ). positions old.origin.first (length old.log - old.origin.first) ++ n ∷ []) (omega (arith, first));
-      put = sym (push_behind old.origin.first old.log e first);
-      quota = omega (arith, some);
-      same_places = refl;
-      behind_known = omega arith;
-      known = omega (arith, more);
-    } in
-    rw (log, is) from_old
+  -- the length of the log is a front that it may be shown
+  whole_front : (store : PlainState D) (number front : ℕ) (seat later : Seat) → IsSound (standing_as device store number seat) → seat.seen ≤ length store.log →
+      later.seen ≡ length store.log → front ≡ length store.log → IsFront front (standing_as device store number seat) (standing_as device store number later)
+  whole_front store number front seat later sound within whole is = record {
+    not_older = omega (arith, within, is);
+    above_own = λ k d below. omega (arith, sound.owns.known k d below, is);
+    is_end = omega (arith, is, whole, length-take-le later.seen store.log (omega (arith, whole)));
+    floor = omega (arith, is, whole);
+  }
 
--- a store that only moved entries out of its ring is as sound as it was
-pub moved_sound : {D T : Type 0} (old new : PlainState D) (result : Result T Stop) → IsSound (standing_of old) →
-    new ≡ record old { journal = new.journal; moved = new.moved } → IsSound (standing_of new)
-moved_sound {D} old new result sound same =
-    let next : PlainState D = record old { journal = new.journal; moved = new.moved } in
-    let still : IsSound (standing_of next) = record { sees = sees sound.sees; owns = owns sound.owns; count = sound.count; shown = sound.shown } in
-    subst (λ (s : PlainState D). IsSound (standing_of s)) (sym same) still
-  where
-    sees : SeesLog (standing_of old) → SeesLog (standing_of (record old { journal = new.journal; moved = new.moved }))
-    sees it = record { old_seen = it.old_seen; floor_seen = it.floor_seen; seen_known = it.seen_known; short = it.short; ids = it.ids }
+  -- what a session saw is within the log
+  pub sees_within : (store : PlainState D) (number : ℕ) → IsSound (standing_of device store number) → (seat_at store.seats number).seen ≤ length store.log
+  sees_within store number sound =
+      let seen = (seat_at store.seats number).seen in
+      omega (arith, sound.sees.floor_seen, length-take seen store.log)
 
-    owns : OwnsPositions (standing_of old) → OwnsPositions (standing_of (record old { journal = new.journal; moved = new.moved }))
-    owns it = record { rises = it.rises; known = it.known; put = it.put }
+  -- so a session whose handle is sound is seated
+  seated_by : (store : PlainState D) (number : ℕ) → IsSound (standing_of device store number) →
+      IsSeated store.origin.first (length store.log) (seat_at store.seats number)
+  seated_by store number sound = record {
+    from = sound.sees.old_seen;
+    to = sees_within store number sound;
+    count = sound.count;
+    shown = sound.shown;
+  }
 
--- an entry wasn't put, since moving the ring's entries out was stopped
-pub was_stopped : {D : Type 0} (old new : PlainState D) (why : Stop) → HasMadeRoom old new (Err why) → IsPutStopped why (standing_of old) (standing_of new)
-was_stopped {D} old new why moved =
-    let next : PlainState D = record old { journal = new.journal; moved = new.moved } in
-    let here = onward_self (standing_of old) in
-    let from_old : IsPutStopped why (standing_of old) (standing_of next) = record {
-      kept = record {
+  -- it may sit seeing the whole log
+  pub may_see : (store : PlainState D) (number : ℕ) → IsSound (standing_of device store number) →
+      MaySit store (seat_at store.seats number) (record (seat_at store.seats number) { seen = length store.log })
+  may_see store number sound =
+      let seated = seated_by store number sound in
+      record {
+        quota = omega arith;
+        seated = record {
+          from = omega (arith, seated.from, seated.to);
+          to = omega arith;
+          count = seated.count;
+          shown = λ k d below. shows_longer _ (length store.log) _ seated.to (seated.shown k d below);
+        };
+        views = λ n there. inr there;
+      }
+
+  -- with something at a place too that goes no further, and is no view of less
+  pub may_keep : (store : PlainState D) (number place : ℕ) (held : Place) → IsSound (standing_of device store number) → ShowsUpTo (length store.log) held →
+      ((n : ℕ) → held ≡ View n → length store.log ≡ n) →
+      MaySit store (seat_at store.seats number) (record (seat_at store.seats number) {
+        seen = length store.log;
+        places = set (seat_at store.seats number).places place held;
+      })
+  may_keep store number place held sound shows whole =
+      let seat = seat_at store.seats number in
+      let seated = seated_by store number sound in
+      record {
+        quota = omega arith;
+        seated = record {
+          from = omega (arith, seated.from, seated.to);
+          to = omega arith;
+          count = length-set seat.places place held ∙ seated.count;
+          shown = shown_set (length store.log) seat.seen seat.places place held seated.to shows seated.shown;
+        };
+        views = λ n there. kept_view seat.places place held (length store.log) whole n there;
+      }
+
+  -- with a place freed
+  pub may_free : (store : PlainState D) (number place : ℕ) → IsSound (standing_of device store number) →
+      MaySit store (seat_at store.seats number) (record (seat_at store.seats number) { places = set (seat_at store.seats number).places place Free })
+  may_free store number place sound =
+      let seat = seat_at store.seats number in
+      let seated = seated_by store number sound in
+      record {
+        quota = omega arith;
+        seated = record {
+          from = seated.from;
+          to = seated.to;
+          count = length-set seat.places place Free ∙ seated.count;
+          shown = shown_set seat.seen seat.seen seat.places place Free (omega arith) tt seated.shown;
+        };
+        views = λ n there. kept_view seat.places place Free (length store.log) (λ m is. absurd (let h : Free ≡ View m = is in cc)) n there;
+      }
+
+  -- a session looked at the whole log
+  pub looked : (store : PlainState D) (number : ℕ) → HasSession store number → IsSound (standing_of device store number) →
+      OnlySees (standing_of device store number)
+      (standing_of device (seen_by store number) number)
+  looked store number session sound =
+      let within = sees_within store number sound in
+      let seat : Seat = seat_at store.seats number in
+      let later : Seat = record seat { seen = length store.log } in
+      standing_given store number later session (λ s. OnlySees (standing_as device store number seat) s) (record {
+        kept = record { onward = seeing store number seat later within refl; same_own = refl; same_edges = refl; same_places = refl };
+        quota = refl;
+      })
+
+  -- and the log's length is then a front for it
+  pub looked_front : (store : PlainState D) (number : ℕ) → HasSession store number → IsSound (standing_of device store number) →
+      IsFront (length store.log) (standing_of device store number)
+      (standing_of device (seen_by store number) number)
+  looked_front store number session sound =
+      let within = sees_within store number sound in
+      let seat : Seat = seat_at store.seats number in
+      let later : Seat = record seat { seen = length store.log } in
+      standing_given store number later session (λ s. IsFront (length store.log) (standing_as device store number seat) s)
+      (whole_front store number (length store.log) seat later sound within refl refl)
+
+  -- something stands at a place of a session that saw the whole log, and the log's length is a front for it
+  pub placed : (store : PlainState D) (number place : ℕ) (held : Place) → HasSession store number → IsSound (standing_of device store number) →
+      IsPlacedAt place held (standing_of device store number) (standing_of device (kept_at store number place held) number)
+      × IsFront (length store.log) (standing_of device store number) (standing_of device (kept_at store number place held) number)
+  placed store number place held session sound =
+      let within = sees_within store number sound in
+      let seat : Seat = seat_at store.seats number in
+      let later : Seat = record seat { seen = length store.log; places = set seat.places place held } in
+      standing_given store number later session (λ s. IsPlacedAt place held (standing_as device store number seat) s
+      × IsFront (length store.log) (standing_as device store number seat) s) (
+        record {
+          onward = seeing store number seat later within refl;
+          puts = record { same_own = refl; same_edges = refl; same_quota = refl };
+          placed = refl;
+        },
+        whole_front store number (length store.log) seat later sound within refl refl,
+      )
+
+  -- something stands at a place of a session that saw no more
+  pub freed : (store : PlainState D) (number place : ℕ) (held : Place) → HasSession store number →
+      IsPlacedAt place held (standing_of device store number) (standing_of device (record store {
+        seats = seats_with store.seats number (record (seat_at store.seats number) { places = set (seat_at store.seats number).places place held });
+      }) number)
+  freed store number place held session =
+      let seat : Seat = seat_at store.seats number in
+      let later : Seat = record seat { places = set seat.places place held } in
+      let same = onward_self (standing_of device store number) in
+      standing_given store number later session (λ s. IsPlacedAt place held (standing_as device store number seat) s) (record {
         onward = record {
           same_terms = refl;
-          seen_more = here.seen_more;
-          seen_longer = here.seen_longer;
-          floor_later = here.floor_later;
-          known_later = here.known_later;
-          durable_later = moved.no_less;
-          met_stays = moved.met_stays;
+          seen_more = same.seen_more;
+          seen_longer = same.seen_longer;
+          floor_later = same.floor_later;
+          known_later = same.known_later;
+          durable_later = same.durable_later;
+          met_stays = λ met. met;
         };
-        same_own = refl;
-        same_edges = refl;
-        same_places = refl;
-      };
-      no_more = omega arith;
-      own_alone = omega arith;
-      met = λ disk. moved.met (ap (λ (w : Stop). Err w) disk);
-    } in
-    subst (λ (s : PlainState D). IsPutStopped why (standing_of old) (standing_of s)) (sym moved.same) from_old
+        puts = record { same_own = refl; same_edges = refl; same_quota = refl };
+        placed = refl;
+      })
 
--- a reading for which there was no memory
-pub read_stopped : {D : Type 0} (store : PlainState D) → IsReadStopped stops.Memory (standing_of store) (standing_of store)
-read_stopped store = record { read = read_self (standing_of store); met = λ disk. absurd (let h : stops.Memory ≡ stops.Disk = disk in cc) }
+  -- an entry was put
+  pub was_put : (store : PlainState D) (number : ℕ) (e : Edge) → HasSession store number → 1 ≤ (seat_at store.seats number).quota →
+      (seat_at store.seats number).seen ≤ length store.log → HasOwners (length store.seats) store.origin.first store.log store.owners →
+      IsPut e (length store.log) (standing_of device store number) (standing_of device (pushed store number e) number)
+  was_put store number e session some within owners =
+      let seat : Seat = seat_at store.seats number in
+      let later : Seat = record seat { quota = seat.quota - 1 } in
+      let first = store.origin.first in
+      let next : PlainState D = record store { log = store.log ++ e ∷ []; owners = store.owners ++ number ∷ [] } in
+      let more : length (store.log ++ e ∷ []) ≡ length store.log + 1 = length-append store.log (e ∷ []) in
+      let same : take seat.seen (store.log ++ e ∷ []) ≡ take seat.seen store.log = take-append-le seat.seen store.log (e ∷ []) within in
+      let own : owned first number (store.owners ++ number ∷ []) ≡ owned first number store.owners ++ length store.log ∷ [] =
+      owned-append first number store.owners (number ∷ []) ∙ ap (λ (l : List ℕ). owned first number store.owners ++ l)
+      (owned_one (first + length store.owners) number ∙ ap (λ (n : ℕ). n ∷ []) owners.each) in
+      let entries : put_by number (store.owners ++ number ∷ []) (drop first (store.log ++ e ∷ [])) ≡ put_by number store.owners
+      (drop first store.log) ++ e ∷ [] =
+      ap (put_by number (store.owners ++ number ∷ [])) (sym (push_behind first store.log e (omega (arith, owners.each))))
+      ∙ put_by-append number store.owners (number ∷ []) (drop first store.log) (e ∷ []) (omega (arith, owners.each, length-drop first store.log))
+      ∙ ap (λ (l : List Edge). put_by number store.owners (drop first store.log) ++ l) (put_by_one number e) in
+      subst (λ (s : Seat). IsPut e (length store.log) (standing_of device store number) (standing_as device next number s))
+      (sym (seat_given store.seats number later session)) (record {
+        put = record {
+          onward = record {
+            same_terms = refl;
+            seen_more = rw same (take_all (length (take seat.seen store.log)) (take seat.seen store.log) (omega arith));
+            seen_longer = omega (arith, ap length same);
+            floor_later = omega arith;
+            known_later = omega (arith, more);
+            durable_later = omega arith;
+            met_stays = λ met. met;
+          };
+          owned = own;
+          put = entries;
+          so_many = refl;
+          rises = (omega arith, tt);
+          known = All-push (λ p. p < length (store.log ++ e ∷ [])) [] (length store.log) (λ k d within. absurd (omega (arith, within))) (omega (arith, more));
+          same_places = refl;
+        };
+        quota = omega (arith, some);
+      })
 
--- the neighbours in a view were listed
-pub lists_read : {D : Type 0} (store : PlainState D) (place vertex front : ℕ) (list : List ℕ) → get_or store.places place Free ≡ View front →
-    list ≡ neighbours (take front store.log) vertex → ListsNeighbours place vertex list (standing_of store) (standing_of store)
-lists_read store place vertex front list held is = record {
-  read = read_self (standing_of store);
-  listed = λ there at. is ∙ ap (λ (n : ℕ). neighbours (take n store.log) vertex) (view_read store.places place front there held at);
-}
+  -- moving entries out of the ring keeps all, and is seen by none
+  pub moves_see : (old new : PlainState D) (number : ℕ) → OnlyMoves old new → OnlySees (standing_of device old number) (standing_of device new number)
+  moves_see old new number only =
+      let next : PlainState D = record old { journal = new.journal; moved = new.moved; cuts = new.cuts } in
+      let here = onward_self (standing_of device old number) in
+      let from_old : OnlySees (standing_of device old number) (standing_of device next number) = record {
+        kept = record {
+          onward = record {
+            same_terms = refl;
+            seen_more = here.seen_more;
+            seen_longer = here.seen_longer;
+            floor_later = here.floor_later;
+            known_later = here.known_later;
+            durable_later = only.no_less;
+            met_stays = only.met_stays;
+          };
+          same_own = refl;
+          same_edges = refl;
+          same_places = refl;
+        };
+        quota = refl;
+      } in
+      subst (λ (s : PlainState D). OnlySees (standing_of device old number) (standing_of device s number)) (sym only.same) from_old
 
--- the same of a store as it is seen from outside
-pub lists_now : {D : Type 0} (store now : PlainState D) (place vertex front : ℕ) (list : List ℕ) → store ≡ now → get_or store.places place Free ≡ View front →
-    list ≡ neighbours (take front store.log) vertex → ListsNeighbours place vertex list (standing_of now) (standing_of now)
-lists_now {D} store now place vertex front list same held is =
-    subst (λ (s : PlainState D). ListsNeighbours place vertex list (standing_of s) (standing_of s)) same (lists_read store place vertex front list held is)
+  -- a call that was stopped while entries were moved out
+  pub moves_stop : (old new : PlainState D) (number : ℕ) (why : Stop) → OnlyMoves old new → (why ≡ stops.Disk → is_spent new.journal ≡ true) →
+      IsStopped why (standing_of device old number) (standing_of device new number)
+  moves_stop old new number why only met = record { sees = moves_see old new number only; met = met }
+
+  -- a put that was stopped so
+  pub put_stops : (old new : PlainState D) (number : ℕ) (why : Stop) → OnlyMoves old new → (why ≡ stops.Disk → is_spent new.journal ≡ true) →
+      IsPutStopped why (standing_of device old number) (standing_of device new number)
+  put_stops old new number why only met =
+      let sees = moves_see old new number only in
+      record { kept = sees.kept; no_more = omega (arith, sees.quota); own_alone = omega (arith, sees.quota); met = met }
+
+  -- a view was taken of the whole log
+  pub viewed : (store : PlainState D) (number place front : ℕ) → HasSession store number → IsSound (standing_of device store number) →
+      front ≡ length store.log →
+      IsViewed place front (standing_of device store number) (standing_of device (kept_at store number place (View front)) number)
+  viewed store number place front session sound whole =
+      let is = placed store number place (View front) session sound in
+      let after = standing_of device (kept_at store number place (View front)) number in
+      record { holds = is.0; front_is = subst (λ (n : ℕ). IsFront n (standing_of device store number) after) (sym whole) is.1 }
+
+  -- a stream was started behind the whole log
+  pub started : (store : PlainState D) (number place cursor : ℕ) → HasSession store number → IsSound (standing_of device store number) →
+      cursor ≡ length store.log →
+      IsStarted place cursor (standing_of device store number) (standing_of device (kept_at store number place (Stream cursor)) number)
+  started store number place cursor session sound whole =
+      let is = placed store number place (Stream cursor) session sound in
+      let after = standing_of device (kept_at store number place (Stream cursor)) number in
+      record { holds = is.0; front_is = subst (λ (n : ℕ). IsFront n (standing_of device store number) after) (sym whole) is.1 }
+
+  -- the log has come to a front
+  pub reached : (store : PlainState D) (number asked : ℕ) → HasSession store number → IsSound (standing_of device store number) → asked ≤ length store.log →
+      HasReached asked asked (standing_of device store number) (standing_of device (seen_by store number) number)
+  reached store number asked session sound within =
+      let seat = seat_at store.seats number in
+      let later : Seat = record seat { seen = length store.log } in
+      record {
+        sees = looked store number session sound;
+        front_is = refl;
+        floor = standing_given store number later session (λ s. asked ≤ s.log.floor) within;
+      }
+
+  -- or it hasn't
+  pub not_reached : (store : PlainState D) (number asked seen : ℕ) → HasSession store number → IsSound (standing_of device store number) →
+      seen ≡ length store.log → seen < asked → HasNotReached asked seen (standing_of device store number) (standing_of device (seen_by store number) number)
+  not_reached store number asked seen session sound whole below =
+      let seat = seat_at store.seats number in
+      let later : Seat = record seat { seen = length store.log } in
+      record {
+        sees = looked store number session sound;
+        seen_is = standing_given store number later session (λ s. seen ≡ length s.log.seen)
+            (omega (arith, whole, length-take-le (length store.log) store.log (omega arith)));
+        below = below;
+      }
+
+  -- a front for what a store is after entries were moved out of its ring was one before
+  front_before : (old mid : PlainState D) (number front : ℕ) (after : Standing) → OnlyMoves old mid → IsFront front (standing_of device mid number) after →
+      IsFront front (standing_of device old number) after
+  front_before old mid number front after only is =
+      let sees = moves_see old mid number only in
+      record {
+        not_older = omega (arith, is.not_older, sees.kept.onward.floor_later);
+        above_own = subst (All (λ p. p < front)) sees.kept.same_own is.above_own;
+        is_end = is.is_end;
+        floor = is.floor;
+      }
+
+  -- all is durable
+  pub synced : (old mid : PlainState D) (number front : ℕ) → OnlyMoves old mid → length mid.log ≤ journal_front mid.journal → HasSession mid number →
+      IsSound (standing_of device mid number) → front ≡ length mid.log →
+      IsSynced front (standing_of device old number) (standing_of device (seen_by mid number) number)
+  synced old mid number front only durable session sound whole =
+      let after = standing_of device (seen_by mid number) number in
+      record {
+        sees = sees_on (standing_of device old number) (standing_of device mid number) after (moves_see old mid number only) (looked mid number session sound);
+        front_is = front_before old mid number front after only
+            (subst (λ (n : ℕ). IsFront n (standing_of device mid number) after) (sym whole) (looked_front mid number session sound));
+        durable = omega (arith, whole, durable);
+      }
+
+  -- shards that were compacted
+  pub cuts_move : (old new : PlainState D) → new ≡ record old { cuts = new.cuts } → OnlyMoves old new
+  cuts_move old new same =
+      let journal : new.journal ≡ old.journal = ap (λ (s : PlainState D). s.journal) same in
+      let moved : new.moved ≡ old.moved = ap (λ (s : PlainState D). s.moved) same in
+      record {
+        same = same ∙ rw (journal, moved) refl;
+        no_less = rw journal (omega arith);
+        met_stays = rw journal (λ met. met);
+      }
+
+  -- an offer that finds the ring full
+  pub busy : (store : PlainState D) (ring : RingState) (shards : List ShardState) (number head : ℕ) → IsArranged store ring shards → HasSession store number →
+      (length ring.entries == ring.room) ≡ true → head ≡ length store.log →
+      IsBusy head store.moved (standing_of device store number) (standing_of device store number)
+  busy store ring shards number head is session full whole =
+      let sound = store_sound store ring shards is number session in
+      let long = ring_length store ring shards is in
+      let all : length ring.entries ≡ ring.room = equal_by (length ring.entries) ring.room full in
+      record {
+        sees = sees_self (standing_of device store number);
+        full = omega (arith, all, long, whole, is.pending.room);
+        old_released = is.pending.old_moved;
+        above_own = λ k d below. omega (arith, sound.owns.known k d below, whole);
+        known = omega (arith, whole);
+      }
+
+  -- a log file that was read or appended to is all that changed
+  pub flushed_moves : (old new : PlainState D) → IsOnlyFlushed old new → OnlyMoves old new
+  flushed_moves old new only =
+      let moved : new.moved ≡ old.moved = ap (λ (s : PlainState D). s.moved) only.same in
+      let cuts : new.cuts ≡ old.cuts = ap (λ (s : PlainState D). s.cuts) only.same in
+      record { same = only.same ∙ rw (moved, cuts) refl; no_less = only.no_less; met_stays = only.met_stays }
+
+  -- what stands at a place then stands there as seen from before
+  placed_before : (old mid : PlainState D) (number place : ℕ) (held : Place) (after : Standing) → OnlyMoves old mid →
+      IsPlacedAt place held (standing_of device mid number) after → IsPlacedAt place held (standing_of device old number) after
+  placed_before old mid number place held after only is =
+      let sees = moves_see old mid number only in
+      record {
+        onward = onward_on (standing_of device old number) (standing_of device mid number) after sees.kept.onward is.onward;
+        puts = record {
+          same_own = is.puts.same_own ∙ sees.kept.same_own;
+          same_edges = is.puts.same_edges ∙ sees.kept.same_edges;
+          same_quota = is.puts.same_quota ∙ sees.quota;
+        };
+        placed = is.placed ∙ ap (λ (l : List Place). set l place held) sees.kept.same_places;
+      }
+
+  -- a stream gave what comes next
+  pub updated : (old mid : PlainState D) (number place most cursor to : ℕ) (list : List Edge) → OnlyMoves old mid → HasSession mid number →
+      IsSound (standing_of device mid number) → Holds place (Stream cursor) (standing_of device old number) → to ≡ min (cursor + most) (length mid.log) →
+      HasRead device mid cursor to list →
+      IsUpdated place most list (record { from = cursor; to = to }) (standing_of device old number)
+      (standing_of device (kept_at mid number place (Stream to)) number)
+  updated old mid number place most cursor to list only session sound held ends read =
+      let after = standing_of device (kept_at mid number place (Stream to)) number in
+      let seat = seat_at mid.seats number in
+      let later : Seat = record seat { seen = length mid.log; places = set seat.places place (Stream to) } in
+      let is = placed mid number place (Stream to) session sound in
+      record {
+        front = length mid.log;
+        from_cursor = held;
+        front_is = front_before old mid number (length mid.log) after only is.1;
+        ends = ends;
+        holds = placed_before old mid number place (Stream to) after only is.0;
+        so_many = read.so_many;
+        shown = λ told. read.shown told ∙ standing_given mid number later session (λ s. drop cursor (take to mid.log) ≡ drop cursor (take to s.log.seen))
+            (ap (λ (l : List Edge). drop cursor (take to l)) (sym (take_all (length mid.log) mid.log (omega arith))));
+      }
+
+  -- the neighbours in a view were listed
+  pub listed : (store : PlainState D) (number place vertex front : ℕ) (list : List ℕ) → IsSound (standing_of device store number) →
+      get_or (seat_at store.seats number).places place Free ≡ View front → list ≡ neighbours (take front store.log) vertex →
+      IsListAt place vertex (standing_of device store number) list
+  listed store number place vertex front list sound held is = λ there at.
+      let seat = seat_at store.seats number in
+      let same = view_read seat.places place front there held at in
+      let within = shown_within seat.places place front seat.seen sound.count sound.shown held in
+      is ∙ ap (λ (l : List Edge). neighbours l vertex) (sym (take-take front seat.seen store.log within)
+      ∙ ap (λ (n : ℕ). take n (take seat.seen store.log)) same)
+
+  -- a stop for want of memory
+  pub memory_stops : (store : PlainState D) (number : ℕ) → IsReadStopped stops.Memory (standing_of device store number) (standing_of device store number)
+  memory_stops store number = record {
+    read = read_self (standing_of device store number);
+    met = λ disk. absurd (let h : stops.Memory ≡ stops.Disk = disk in cc);
+  }

@@ -3,6 +3,9 @@ pub mod Ring
 pub mod Skips
 pub mod RingFields
 pub mod Views
+pub mod Seats
+pub mod Owners
 pub mod Plain
 pub mod Past
+pub mod GoingOn
 pub mod Fields

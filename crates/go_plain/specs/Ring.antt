@@ -5,9 +5,11 @@ use Rattle.go_word.specs.Log.{IsWithin, leaves}
 use Rattle.go_word.specs.declared.edge.TheConstants.{VERTEX_LIMIT}
 use Rattle.go_api.specs.declared.limits.TheConstants.{SLOT_LIMIT}
 
--- a ring has entries in the order of their arrival, room for so many, and so many vertices that they may be between
+-- a ring has entries in the order of their arrival, of each the number of the session that put it, room for so many, and so many vertices that they
+-- may be between
 pub record RingState : Type 0 where
   pub entries : List Edge
+  pub owners : List ℕ
   pub room : ℕ
   pub vertices : ℕ
 
@@ -17,6 +19,7 @@ pub record IsRing (ring : RingState) : Type 0 where
   pub small : ring.room ≤ SLOT_LIMIT
   pub few : ring.vertices ≤ VERTEX_LIMIT
   pub within : length ring.entries ≤ ring.room
+  pub owned : length ring.owners ≡ length ring.entries
   pub ids : All (IsWithin ring.vertices) ring.entries
 
 -- the number of the latest entry that leaves s, counted from 1, and 0 where none does

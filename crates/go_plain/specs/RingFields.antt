@@ -4,13 +4,14 @@ use Rattle.go_plain.specs.Ring.{RingState, IsRing, IsChained}
 use Rattle.go_plain.specs.Skips.{HasSkips}
 use Rattle.go_plain.specs.declared.ring.Ring.TheInside.{Inside}
 
--- the ring: its entries, for how many it has room, and its number of vertices
+-- the ring: its entries and who put them, for how many it has room, and its number of vertices
 abbrev pub ring_of : Inside → RingState
-ring_of ring = record { entries = ring.entries.items; room = ring.room; vertices = length ring.latest.items }
+ring_of ring = record { entries = ring.entries.items; owners = ring.owners.items; room = ring.room; vertices = length ring.latest.items }
 
 -- there is memory for all entries that the ring has room for
 pub record HasMemory (ring : Inside) : Type 0 where
   pub entries : ring.room ≤ vec_capacity ring.entries
+  pub owners : ring.room ≤ vec_capacity ring.owners
   pub prior : ring.room ≤ vec_capacity ring.prior
   pub skips : ring.room ≤ vec_capacity ring.skips
 

@@ -1,14 +1,15 @@
 // Making a store over a log that was opened.
-ghost use Rattle.std.specs.Prelude.{◌≡◌, ◌+◌, ◌<◌, ◌≤◌, ◌^◌, [], List, All, length, slice_index, IfOk, MatchResult};
+ghost use Rattle.std.specs.Prelude.{◌≡◌, ◌+◌, ◌<◌, ◌≤◌, ◌^◌, [], List, All, length, map, replicate, IfOk, MatchResult};
 ghost use Rattle.go_word.specs.declared.edge.Edge.{Edge as Entry};
 ghost use Rattle.go_word.specs.Log.{IsWithin};
-ghost use Rattle.go_api.specs.declared.limits.TheConstants.{LOG_ENTRIES};
-ghost use Rattle.go_plain.specs.Plain.{IsPlainSetup, made_of};
+ghost use Rattle.go_plain.specs.Plain.{AreQuotas, IsPlainSetup, made_of};
 ghost use Rattle.go_shard.specs.Parts.{HaveParts};
 
+use crate::body::Body;
 use crate::ring::Ring;
+use crate::seat::new_seats;
 use crate::store::PlainStore;
-use go_api::{PLACES, Place, Setup};
+use go_api::Setup;
 use go_disk::Disk;
 use go_durable::{Journal, Opened};
 use go_shard::{Shard, catch_up, empty_shards};
@@ -23,7 +24,7 @@ pub struct Unmade<D> {
 }
 
 impl<D: Disk> PlainStore<D> {
-    /// A store over a log that was opened, for one session that may put so many entries.
+    /// A store over a log that was opened, for as many sessions as there are quotas: each may put so many entries.
     ///
     /// The refusal is want of memory, and hands the disk back.
     pub fn new(
@@ -34,9 +35,8 @@ impl<D: Disk> PlainStore<D> {
     ) -> Result<PlainStore<D>, Unmade<D>>
         requires setup { IsPlainSetup setup }
         requires vertices { opened.log.vertices ≡ setup.vertices }
-        requires one { length quotas.now ≡ 1 }
-        requires room { length opened.edges + slice_index quotas.now 0 ≤ LOG_ENTRIES }
-        ensures { MatchResult result (λ store. store ≡ made_of opened setup (slice_index quotas.now 0)) (λ unmade. unmade.disk ≡ opened.log.disk) }
+        requires quotas { AreQuotas (length opened.edges) quotas.now }
+        ensures { MatchResult result (λ store. store ≡ made_of opened setup quotas.now) (λ unmade. unmade.disk ≡ opened.log.disk) }
     {
         let Opened { log, edges } = opened;
         let Ok(shards) = make_shards(alloc, setup, &edges) else {
@@ -49,7 +49,12 @@ impl<D: Disk> PlainStore<D> {
                 disk: log.into_disk(),
             });
         };
-        Ok(PlainStore {
+        let Ok(seats) = new_seats(alloc, edges.len() as u64, quotas) else {
+            return Err(Unmade {
+                disk: log.into_disk(),
+            });
+        };
+        let body = Body {
             alloc,
             vertices: setup.vertices,
             first: edges.len() as u64,
@@ -60,9 +65,14 @@ impl<D: Disk> PlainStore<D> {
             shards,
             ring,
             journal: Some(Journal::Sound { log }),
-            quota: quotas[0],
-            places: [Place::Free; PLACES],
-        })
+            seats,
+        };
+        match Box::new(alloc, body) {
+            Ok(body) => Ok(PlainStore { body }),
+            Err(refused) => Err(Unmade {
+                disk: refused.value.into_disk(),
+            }),
+        }
     }
 }
 
@@ -71,7 +81,8 @@ fn make_shards(alloc: Global, setup: Setup, edges: &[Edge]) -> Result<Vec<Shard>
     requires setup { IsPlainSetup setup }
     requires ids { All (IsWithin setup.vertices) edges.now }
     requires small { length edges.now < 2 ^ 32 }
-    ensures { IfOk result (λ shards. HaveParts setup.vertices (length shards.items) (length edges.now) [] edges.now shards.items) }
+    ensures parts { IfOk result (λ shards. HaveParts setup.vertices (length shards.items) (length edges.now) [] edges.now shards.items) }
+    ensures cuts { IfOk result (λ shards. map (λ shard. shard.cut) shards.items ≡ replicate setup.shards 0) }
 {
     let mut shards = empty_shards(alloc, setup.shards, setup.vertices)?;
     catch_up(alloc, &mut shards, edges, 0, &[])?;

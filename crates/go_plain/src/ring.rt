@@ -17,6 +17,8 @@ use std::marker::Model;
 pub struct Ring {
     room: u32,
     entries: Vec<Edge>,
+    // By entry the number of the session that put it.
+    owners: Vec<u8>,
     // By vertex the number of its latest entry, counted from 1, and 0 where it has none.
     latest: Vec<u32>,
     // By entry the number of the one before it that leaves the same vertex.
@@ -44,11 +46,12 @@ impl Ring {
         requires some { 1 ≤ room }
         requires small { room ≤ SLOT_LIMIT }
         requires few { vertices ≤ VERTEX_LIMIT }
-        ensures { IfOk result (λ ring. ring ≡ record { entries = []; room = room; vertices = vertices }) }
+        ensures { IfOk result (λ ring. ring ≡ record { entries = []; owners = []; room = room; vertices = vertices }) }
     {
         Ok(Ring {
             room,
             entries: Vec::with_capacity(alloc, room as usize)?,
+            owners: Vec::with_capacity(alloc, room as usize)?,
             latest: vec![in alloc; 0u32; vertices as usize]?,
             prior: Vec::with_capacity(alloc, room as usize)?,
             skips: Vec::with_capacity(alloc, room as usize)?,
@@ -80,11 +83,11 @@ impl Ring {
         &self.entries
     }
 
-    /// Takes one more entry; takes no memory.
-    pub fn push(&mut self, edge: Edge)
+    /// Takes one more entry, of a session; takes no memory.
+    pub fn push(&mut self, edge: Edge, owner: u8)
         requires room { length self.old.entries < self.old.room }
         requires ids { IsWithin self.old.vertices edge }
-        ensures { self.new ≡ record self.old { entries = self.old.entries ++ edge ∷ [] } }
+        ensures { self.new ≡ record self.old { entries = self.old.entries ++ edge ∷ []; owners = self.old.owners ++ owner ∷ [] } }
     {
         let place = edge.src as usize;
         let latest = self.latest[place];
@@ -92,6 +95,7 @@ impl Ring {
         self.skips.push_reserved(skip);
         self.prior.push_reserved(latest);
         self.entries.push_reserved(edge);
+        self.owners.push_reserved(owner);
         self.latest[place] = self.entries.len() as u32;
     }
 
@@ -118,10 +122,11 @@ impl Ring {
 
     /// Gives up all entries; goes through them alone, and takes no memory.
     pub fn clear(&mut self)
-        ensures { self.new ≡ record self.old { entries = [] } }
+        ensures { self.new ≡ record self.old { entries = []; owners = [] } }
     {
         forget(&self.entries, &mut self.latest);
         self.entries.clear();
+        self.owners.clear();
         self.prior.clear();
         self.skips.clear();
         self.mark = 0;

@@ -1,44 +1,19 @@
 // Rows of a ring and a small store, worked out by hand.
-ghost use Rattle.std.specs.Prelude.{◌≡◌, ◌≤◌, ◌^◌, true, false, IfSome};
-ghost use Rattle.go_api.specs.Standing.{all_free};
 
-use crate::PlainStore;
+use crate::fixture::{add, del, store_over};
 use crate::ring::Ring;
-use go_api::{Setup, Store};
+use go_api::Store;
 use go_disk::MemDisk;
-use go_durable::attach;
-use go_word::Edge;
-use std::alloc::Global;
 use std::test::Fail;
-
-fn add(src: u32, dst: u32) -> Edge
-    ensures { result ≡ record { del = false; src = src; dst = dst } }
-{
-    Edge {
-        del: false,
-        src,
-        dst,
-    }
-}
-
-fn del(src: u32, dst: u32) -> Edge
-    ensures { result ≡ record { del = true; src = src; dst = dst } }
-{
-    Edge {
-        del: true,
-        src,
-        dst,
-    }
-}
 
 #[test]
 fn words_of_one_vertex_in_the_order_of_their_arrival(rt: HostRuntime) -> Result<(), Fail> {
     let mut ring = Ring::new(rt.alloc(), 4, 3)?;
-    ring.push(add(1, 2));
-    ring.push(add(0, 1));
-    ring.push(del(1, 2));
+    ring.push(add(1, 2), 1);
+    ring.push(add(0, 1), 1);
+    ring.push(del(1, 2), 1);
     assert_eq!(rt; ring.is_full(), false);
-    ring.push(add(1, 0));
+    ring.push(add(1, 0), 1);
     assert_eq!(rt; ring.is_full(), true);
     assert_eq!(rt; ring.len(), 4);
     let mut words = [9].to_vec(rt.alloc())?;
@@ -69,19 +44,19 @@ fn words_of_each_front_are_those_of_the_first_entries_wherever_marks_stand(
     rt: HostRuntime,
 ) -> Result<(), Fail> {
     let mut ring = Ring::new(rt.alloc(), 9, 3)?;
-    ring.push(add(1, 0));
-    ring.push(add(2, 1));
+    ring.push(add(1, 0), 1);
+    ring.push(add(2, 1), 1);
     ring.mark();
-    ring.push(add(1, 2));
-    ring.push(add(1, 1));
-    ring.push(add(0, 0));
+    ring.push(add(1, 2), 1);
+    ring.push(add(1, 1), 1);
+    ring.push(add(0, 0), 1);
     ring.mark();
     ring.mark();
-    ring.push(del(1, 2));
-    ring.push(add(2, 2));
-    ring.push(add(1, 0));
+    ring.push(del(1, 2), 1);
+    ring.push(add(2, 2), 1);
+    ring.push(add(1, 0), 1);
     ring.mark();
-    ring.push(add(1, 1));
+    ring.push(add(1, 1), 1);
     let mut words = Vec::new(rt.alloc());
     for count in 0..10 {
         for vertex in 0..3 {
@@ -107,10 +82,10 @@ fn words_of_each_front_are_those_of_the_first_entries_wherever_marks_stand(
 #[test]
 fn a_cleared_ring_has_only_what_comes_after(rt: HostRuntime) -> Result<(), Fail> {
     let mut ring = Ring::new(rt.alloc(), 1, 2)?;
-    ring.push(add(1, 0));
+    ring.push(add(1, 0), 1);
     ring.clear();
     assert_eq!(rt; ring.len(), 0);
-    ring.push(add(1, 1));
+    ring.push(add(1, 1), 1);
     let mut words = Vec::new(rt.alloc());
     ring.words_from(1, 1, &mut words)?;
     assert_eq!(rt; words.as_slice(), [0x8000_0001].as_slice());
@@ -118,32 +93,10 @@ fn a_cleared_ring_has_only_what_comes_after(rt: HostRuntime) -> Result<(), Fail>
     Ok(())
 }
 
-// A store over a disk, of 8 vertices and two shards, with a ring of one slot; for so many entries.
-fn store_over(alloc: Global, disk: MemDisk, quota: u64) -> Option<PlainStore<MemDisk>>
-    requires { quota ≤ 2 ^ 20 }
-    ensures quota { IfSome result (λ store. store.quota ≡ quota) }
-    ensures vertices { IfSome result (λ store. store.origin.vertices ≡ 8) }
-    ensures places { IfSome result (λ store. store.places ≡ all_free) }
-{
-    let opened = match attach(alloc, disk, 8, 1_000_000) {
-        Ok(opened) => opened,
-        Err(_) => return None,
-    };
-    let setup = Setup {
-        vertices: 8,
-        ring: 1,
-        shards: 2,
-    };
-    match PlainStore::new(alloc, opened, setup, &[quota]) {
-        Ok(store) => Some(store),
-        Err(_) => None,
-    }
-}
-
 #[test]
 fn views_stay_while_entries_move_to_shards_and_file(rt: HostRuntime) -> Result<(), Fail> {
     let disk = MemDisk::new(rt.alloc(), b"", 400)?;
-    let Some(store) = store_over(rt.alloc(), disk, 3) else {
+    let Some(store) = store_over(rt.alloc(), disk, 1, 3) else {
         return Err(Fail::new("not made"));
     };
     let mut session = store.session(1);

@@ -4,6 +4,8 @@ use Rattle.go_api.specs.declared.place.Place.{Place}
 use Rattle.go_api.specs.declared.place.Place.TheVariants.{View}
 use Rattle.go_api.proofs.StandingLemmas.{same_vertices}
 use Rattle.go_plain.specs.Plain.{PlainState}
+use Rattle.go_plain.specs.Seats.{seat_at}
+use Rattle.go_plain.specs.declared.seat.Seat.{Seat}
 use Rattle.go_plain.proofs.tests.views_stay_while_entries_move_to_shards_and_file.Goals as goal
 
 pub neighbours-requires : goal.neighbours-requires
@@ -11,9 +13,11 @@ neighbours-requires g c =
     let first = c.in-Ok.ensures.puts in
     let view = c.in-Ok-view.ensures.views in
     let second = c.in-Ok-put.ensures.puts in
-    let made = ap (λ (s : PlainState _). s.places) c.session-session.ensures.store ∙ c.in-Some.ensures.places in
-    let places = second.same_places ∙ view.placed ∙ ap (λ (l : List Place). set l 0 (View c.in-Ok-view.front)) (first.same_places ∙ made) in
-    let vertices = same_vertices second.onward ∙ same_vertices view.onward ∙ same_vertices first.onward
+    let made = ap (λ n. (seat_at c.session-session.result.store.seats n).places) c.session-session.ensures.number
+    ∙ ap (λ (s : PlainState _). (seat_at s.seats 1).places) c.session-session.ensures.store
+    ∙ ap (λ (l : List Seat). (seat_at l 1).places) c.in-Some.ensures.seats in
+    let places = second.put.same_places ∙ view.holds.placed ∙ ap (λ (l : List Place). set l 0 (View c.in-Ok-view.front)) (first.put.same_places ∙ made) in
+    let vertices = same_vertices second.put.onward ∙ same_vertices view.holds.onward ∙ same_vertices first.put.onward
     ∙ ap (λ (s : PlainState _). s.origin.vertices) c.session-session.ensures.store ∙ c.in-Some.ensures.vertices in
     record {
       front = c.in-Ok-view.front;

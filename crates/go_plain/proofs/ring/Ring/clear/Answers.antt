@@ -13,15 +13,17 @@ invariant_of-self c =
     ≡ (if raw l s == 0 then get_or c.self.inside.latest.items s 0 else 0)) c.deref.ensures.value (c.forget.ensures.gone s) in
     kept_clear c.self.inside _ c.self.invariant (record {
       entries = c.clear.ensures.items;
+      owners = c.clear-2.ensures.items;
       latest = c.forget.ensures.all;
       gone = gone;
-      prior = c.clear-2.ensures.items;
-      skips = c.clear-3.ensures.items;
+      prior = c.clear-3.ensures.items;
+      skips = c.clear-4.ensures.items;
       room = refl;
       mark = refl;
       memory = record {
         entries = omega (arith, c.clear.ensures.capacity, memory.entries);
-        prior = omega (arith, c.clear-2.ensures.capacity, memory.prior);
-        skips = omega (arith, c.clear-3.ensures.capacity, memory.skips);
+        owners = omega (arith, c.clear-2.ensures.capacity, memory.owners);
+        prior = omega (arith, c.clear-3.ensures.capacity, memory.prior);
+        skips = omega (arith, c.clear-4.ensures.capacity, memory.skips);
       };
     })

@@ -34,8 +34,11 @@ invariant_of-self c =
     let long : length c.push_reserved-3.new.self.items ≡ length c.self.inside.entries.items + 1 = ap length c.push_reserved-3.ensures.items
     ∙ length-append c.self.inside.entries.items (c.args.edge ∷ []) in
     let number : c.len.result ≡ length c.self.inside.entries.items + 1 = omega (arith, long, c.len.ensures) in
+    let owners : length c.push_reserved-4.new.self.items ≡ length c.self.inside.owners.items + 1 = ap length c.push_reserved-4.ensures.items
+    ∙ length-append c.self.inside.owners.items (c.args.owner ∷ []) in
     kept_push c.self.inside _ c.args.edge c.past-skip.result kept short ids (record {
       entries = c.push_reserved-3.ensures.items;
+      owners = owners;
       latest = ap (λ (n : ℕ). set c.self.inside.latest.items c.args.edge.src n) number;
       prior = c.push_reserved-2.ensures.items ∙ ap (λ (n : ℕ). c.self.inside.prior.items ++ n ∷ []) read;
       skips = c.push_reserved.ensures.items;
@@ -43,6 +46,7 @@ invariant_of-self c =
       mark = refl;
       memory = record {
         entries = omega (arith, c.push_reserved-3.ensures.capacity, kept.memory.entries);
+        owners = omega (arith, c.push_reserved-4.ensures.capacity, kept.memory.owners);
         prior = omega (arith, c.push_reserved-2.ensures.capacity, kept.memory.prior);
         skips = omega (arith, c.push_reserved.ensures.capacity, kept.memory.skips);
       };
