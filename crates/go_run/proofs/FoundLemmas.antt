@@ -1,7 +1,10 @@
 -- Reading words part by part leads to what all their parts say, and to nothing else.
 use Rattle.std.proofs.Common.{◌≡◌, ℕ, Bool, true, false, IsTrue, List, [], ◌∷◌, ◌++◌}
 use Rattle.std.proofs.Common.{Option, Some, None, option_map, option_to_list, refl, sym, ap, subst, ◌∙◌}
-use Rattle.std.proofs.Common.{append-nil, append_assoc}
+use Rattle.std.proofs.Common.{append-nil, append_assoc, length, length-append, suc, ◌<◌, ◌≤◌, ◌&&◌, if◌then◌else◌, inl, inr, arith}
+use Rattle.std.specs.Prelude.{nat_lt}
+use Rattle.std.proofs.lemmas.Bool.Decides.{leb_tells}
+use Rattle.go_run.specs.declared.limits.TheConstants.{SCRIPTS}
 use Rattle.go_run.specs.declared.setting.Setting.{Setting}
 use Rattle.go_run.specs.declared.setting.Setting.TheVariants as settings
 use Rattle.go_run.specs.Words.{Part, chosen, named, may_be, WritesFirst, Writes, value_in, file_in, values_in, files_in}
@@ -46,6 +49,26 @@ first_none false before text is may = absurd (let h : false ≡ true = may in cc
 first_none true None text is may = absurd (let h : Some text ≡ None = is in cc)
 first_none true (Some old) text is may = (old, refl)
 
+-- one file more
+room_some : (may room : Bool) (more all : Kept) → (if may && room then Some more else None) ≡ Some all → IsTrue may × IsTrue room × (more ≡ all)
+room_some true true more all is = (refl, refl, (let h : Some more ≡ Some all = is in cc))
+room_some true false more all is = absurd (let h : None ≡ Some all = is in cc)
+room_some false room more all is = absurd (let h : None ≡ Some all = is in cc)
+
+room_none : (may : Bool) (count : ℕ) (more : Kept) → (if may && nat_lt count SCRIPTS then Some more else None) ≡ None → IsTrue may → SCRIPTS ≤ count
+room_none false count more is may = absurd (let h : false ≡ true = may in cc)
+room_none true count more is may =
+    elim (leb_tells (suc count) SCRIPTS) [
+      | inl h ↦ absurd (let there : Some more ≡ None = rw h.0 at is in cc)
+      | inr h ↦ let full = h.1 in omega arith
+    ]
+
+room_less : (count : ℕ) → IsTrue (nat_lt count SCRIPTS) → count < SCRIPTS
+room_less count room = elim (leb_tells (suc count) SCRIPTS) [
+  | inl h ↦ h.1
+  | inr h ↦ absurd (let no : false ≡ true = rw h.0 at room in cc)
+]
+
 -- what one part adds
 record Adds (kept : Kept) (part : Part) (more : Kept) : Type 0 where
   may : IsTrue (may_be part)
@@ -53,7 +76,9 @@ record Adds (kept : Kept) (part : Part) (more : Kept) : Type 0 where
   ring : option_to_list more.ring ≡ option_to_list kept.ring ++ option_to_list (value_in settings.Ring part)
   shards : option_to_list more.shards ≡ option_to_list kept.shards ++ option_to_list (value_in settings.Shards part)
   log : option_to_list more.log ≡ option_to_list kept.log ++ option_to_list (value_in settings.Log part)
-  file : option_to_list more.file ≡ option_to_list kept.file ++ option_to_list (file_in part)
+  edges : option_to_list more.edges ≡ option_to_list kept.edges ++ option_to_list (value_in settings.Edges part)
+  seed : option_to_list more.seed ≡ option_to_list kept.seed ++ option_to_list (value_in settings.Seed part)
+  files : more.files ≡ kept.files ++ option_to_list (file_in part)
 
 stays : (it : Option (List ℕ)) → option_to_list it ≡ option_to_list it ++ []
 stays it = sym (append-nil (option_to_list it))
@@ -72,7 +97,9 @@ put_adds kept (chosen settings.Vertices value) more is =
       ring = stays kept.ring;
       shards = stays kept.shards;
       log = stays kept.log;
-      file = stays kept.file;
+      edges = stays kept.edges;
+      seed = stays kept.seed;
+      files = sym (append-nil kept.files);
     })
 put_adds kept (chosen settings.Ring value) more is =
     let it = holds _ _ more is in
@@ -83,7 +110,9 @@ put_adds kept (chosen settings.Ring value) more is =
       ring = comes kept.ring it.0 value new.0 new.1;
       shards = stays kept.shards;
       log = stays kept.log;
-      file = stays kept.file;
+      edges = stays kept.edges;
+      seed = stays kept.seed;
+      files = sym (append-nil kept.files);
     })
 put_adds kept (chosen settings.Shards value) more is =
     let it = holds _ _ more is in
@@ -94,7 +123,9 @@ put_adds kept (chosen settings.Shards value) more is =
       ring = stays kept.ring;
       shards = comes kept.shards it.0 value new.0 new.1;
       log = stays kept.log;
-      file = stays kept.file;
+      edges = stays kept.edges;
+      seed = stays kept.seed;
+      files = sym (append-nil kept.files);
     })
 put_adds kept (chosen settings.Log value) more is =
     let it = holds _ _ more is in
@@ -105,18 +136,47 @@ put_adds kept (chosen settings.Log value) more is =
       ring = stays kept.ring;
       shards = stays kept.shards;
       log = comes kept.log it.0 value new.0 new.1;
-      file = stays kept.file;
+      edges = stays kept.edges;
+      seed = stays kept.seed;
+      files = sym (append-nil kept.files);
     })
-put_adds kept (named name) more is =
+put_adds kept (chosen settings.Edges value) more is =
     let it = holds _ _ more is in
-    let new = first_some (may_be (named name)) kept.file name it.0 it.1 in
-    subst (λ (m : Kept). Adds kept (named name) m) it.2 (record {
+    let new = first_some (may_be (chosen settings.Edges value)) kept.edges value it.0 it.1 in
+    subst (λ (m : Kept). Adds kept (chosen settings.Edges value) m) it.2 (record {
       may = new.2;
       vertices = stays kept.vertices;
       ring = stays kept.ring;
       shards = stays kept.shards;
       log = stays kept.log;
-      file = comes kept.file it.0 name new.0 new.1;
+      edges = comes kept.edges it.0 value new.0 new.1;
+      seed = stays kept.seed;
+      files = sym (append-nil kept.files);
+    })
+put_adds kept (chosen settings.Seed value) more is =
+    let it = holds _ _ more is in
+    let new = first_some (may_be (chosen settings.Seed value)) kept.seed value it.0 it.1 in
+    subst (λ (m : Kept). Adds kept (chosen settings.Seed value) m) it.2 (record {
+      may = new.2;
+      vertices = stays kept.vertices;
+      ring = stays kept.ring;
+      shards = stays kept.shards;
+      log = stays kept.log;
+      edges = stays kept.edges;
+      seed = comes kept.seed it.0 value new.0 new.1;
+      files = sym (append-nil kept.files);
+    })
+put_adds kept (named name) more is =
+    let it = room_some (may_be (named name)) (nat_lt (length kept.files) SCRIPTS) (record kept { files = kept.files ++ name ∷ [] }) more is in
+    subst (λ (m : Kept). Adds kept (named name) m) it.2 (record {
+      may = it.0;
+      vertices = stays kept.vertices;
+      ring = stays kept.ring;
+      shards = stays kept.shards;
+      log = stays kept.log;
+      edges = stays kept.edges;
+      seed = stays kept.seed;
+      files = refl;
     })
 
 -- where a part adds nothing it is the second of its kind, and then no parts lead anywhere
@@ -133,9 +193,29 @@ put_ends kept (chosen settings.Shards value) parts all is may gathers =
 put_ends kept (chosen settings.Log value) parts all is may gathers =
     let old = first_none (may_be (chosen settings.Log value)) kept.log value (holds_none _ _ is) may in
     no_second all.log kept.log old.0 value (values_in settings.Log parts) old.1 gathers.log
+put_ends kept (chosen settings.Edges value) parts all is may gathers =
+    let old = first_none (may_be (chosen settings.Edges value)) kept.edges value (holds_none _ _ is) may in
+    no_second all.edges kept.edges old.0 value (values_in settings.Edges parts) old.1 gathers.edges
+put_ends kept (chosen settings.Seed value) parts all is may gathers =
+    let old = first_none (may_be (chosen settings.Seed value)) kept.seed value (holds_none _ _ is) may in
+    no_second all.seed kept.seed old.0 value (values_in settings.Seed parts) old.1 gathers.seed
 put_ends kept (named name) parts all is may gathers =
-    let old = first_none (may_be (named name)) kept.file name (holds_none _ _ is) may in
-    no_second all.file kept.file old.0 name (files_in parts) old.1 gathers.file
+    let full : SCRIPTS ≤ length kept.files = room_none (may_be (named name)) (length kept.files) (record kept { files = kept.files ++ name ∷ [] }) is may in
+    let many = ap (λ (l : List (List ℕ)). length l) gathers.files in
+    let sum = length-append kept.files (name ∷ files_in parts) in
+    let few = gathers.few in
+    omega arith
+
+-- there are no more files than there may be
+pub put_few : (kept : Kept) (part : Part) (more : Kept) → put kept part ≡ Some more → length kept.files ≤ SCRIPTS → length more.files ≤ SCRIPTS
+put_few kept (chosen setting value) more is few =
+    let same = ap (λ (l : List (List ℕ)). length l) ((put_adds kept (chosen setting value) more is).files ∙ append-nil kept.files) in omega arith
+put_few kept (named name) more is few =
+    let it = room_some (may_be (named name)) (nat_lt (length kept.files) SCRIPTS) (record kept { files = kept.files ++ name ∷ [] }) more is in
+    let room : length kept.files < SCRIPTS = room_less (length kept.files) it.1 in
+    let same = ap (λ (m : Kept). length m.files) it.2 in
+    let sum = length-append kept.files (name ∷ []) in
+    omega arith
 
 -- what stands behind what was added
 behind : (all before more first rest : List (List ℕ)) → more ≡ before ++ first → all ≡ more ++ rest → all ≡ before ++ (first ++ rest)
@@ -150,7 +230,10 @@ gathers_more kept more all part parts adds gathers = record {
   ring = behind _ _ _ _ _ adds.ring gathers.ring;
   shards = behind _ _ _ _ _ adds.shards gathers.shards;
   log = behind _ _ _ _ _ adds.log gathers.log;
-  file = behind _ _ _ _ _ adds.file gathers.file;
+  edges = behind _ _ _ _ _ adds.edges gathers.edges;
+  seed = behind _ _ _ _ _ adds.seed gathers.seed;
+  files = behind _ _ _ _ _ adds.files gathers.files;
+  few = gathers.few;
 }
 
 gathers_rest : (kept more all : Kept) (part : Part) (parts : List Part) → Adds kept part more → Gathers kept (part ∷ parts) all → Gathers more parts all
@@ -159,7 +242,10 @@ gathers_rest kept more all part parts adds gathers = record {
   ring = from_behind _ _ _ _ _ adds.ring gathers.ring;
   shards = from_behind _ _ _ _ _ adds.shards gathers.shards;
   log = from_behind _ _ _ _ _ adds.log gathers.log;
-  file = from_behind _ _ _ _ _ adds.file gathers.file;
+  edges = from_behind _ _ _ _ _ adds.edges gathers.edges;
+  seed = from_behind _ _ _ _ _ adds.seed gathers.seed;
+  files = from_behind _ _ _ _ _ adds.files gathers.files;
+  few = gathers.few;
 }
 
 -- the words are at their end
@@ -171,12 +257,14 @@ no_parts kept all [] written gathers =
       ring = same kept.ring all.ring gathers.ring i;
       shards = same kept.shards all.shards gathers.shards i;
       log = same kept.log all.log gathers.log i;
-      file = same kept.file all.file gathers.file i;
+      edges = same kept.edges all.edges gathers.edges i;
+      seed = same kept.seed all.seed gathers.seed i;
+      files = (sym (append-nil kept.files) ∙ sym gathers.files) i;
     })
 no_parts kept all (part ∷ parts) written gathers = absurd (writes_some part written.0 written.1)
 
-pub reads_end : (kept : Kept) → Reads kept [] (Some kept)
-reads_end kept = record {
+pub reads_end : (kept : Kept) → length kept.files ≤ SCRIPTS → Reads kept [] (Some kept)
+reads_end kept few = record {
   some = record {
     parts = [];
     written = refl;
@@ -185,7 +273,10 @@ reads_end kept = record {
       ring = stays kept.ring;
       shards = stays kept.shards;
       log = stays kept.log;
-      file = stays kept.file;
+      edges = stays kept.edges;
+      seed = stays kept.seed;
+      files = sym (append-nil kept.files);
+      few = few;
     };
   };
   alone = λ all collects. no_parts kept all collects.parts collects.written collects.gathers;

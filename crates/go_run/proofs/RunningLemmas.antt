@@ -1,7 +1,9 @@
--- The steps of running commands over a disk.
-use Rattle.std.proofs.Common.{◌≡◌, ℕ, ◌+◌, ◌*◌, ◌-◌, ◌<◌, ◌≤◌, ◌^◌, List, [], length, Option, Some, None, Result, Ok, Err, refl, ap, arith, sym, subst, ◌∙◌}
-use Rattle.std.proofs.Common.{inl, inr}
-use Rattle.std.proofs.Common.{take_all}
+-- The steps of running the tasks of sessions over a disk.
+use Rattle.std.proofs.Common.{◌≡◌, ℕ, ◌+◌, ◌*◌, ◌-◌, ◌<◌, ◌≤◌, ◌^◌, true, List, [], length, take, map}
+use Rattle.std.proofs.Common.{sum, sum_by, Option, Some, None, Result, Ok, Err, refl, ap, arith, sym, subst, ◌∙◌}
+use Rattle.std.proofs.Common.{inl, inr, take_all}
+use Rattle.std.specs.Prelude.{IfSome, All, is_some}
+use Rattle.std.proofs.lemmas.List.{length-map}
 use Rattle.go_text.specs.Causes.{Rose}
 use Rattle.go_word.specs.declared.edge.Edge.{Edge}
 use Rattle.go_api.specs.declared.limits.TheConstants.{LOG_ENTRIES}
@@ -11,35 +13,37 @@ use Rattle.go_api.specs.declared.stop.Stop.TheVariants as stops
 use Rattle.go_blocks.specs.File.{File, places_of}
 use Rattle.go_blocks.specs.declared.layout.TheConstants.{FIRST_GATE}
 use Rattle.go_blocks.proofs.Steps.{IsReadOf-fits}
-use Rattle.go_disk.specs.Device.{Device}
+use Rattle.go_disk.specs.Device.{Device, IsDevice}
+use Rattle.go_durable.specs.Appending.{HasImage}
 use Rattle.go_durable.specs.Attaching.{IsFound, IsAnswerOf, IsOpenedFor, OpensOver, LeavesUntouched, TellsFault, disk_of}
 use Rattle.go_durable.specs.LogState.{OpenedLog}
-use Rattle.go_durable.specs.Moments.{SettlesTo}
+use Rattle.go_durable.specs.Moments.{LeavesOnly, SettlesTo}
 use Rattle.go_durable.specs.Recovery.{Recovers, RecoversPart}
 use Rattle.go_durable.specs.declared.fault.OpenFault.{OpenFault}
 use Rattle.go_durable.specs.declared.fault.OpenFault.TheVariants as faults
 use Rattle.go_durable.specs.declared.finished.Finished.{Finished}
-use Rattle.go_durable.proofs.Moments.{settles_weaker}
-use Rattle.go_plain.specs.Plain.{Origin, PlainState, standing_of, made_of}
-use Rattle.go_script.specs.declared.command.Command.{Command}
-use Rattle.go_script.specs.Places.{IsWithin, IsScript}
-use Rattle.go_session.specs.Puts.{puts_of}
-use Rattle.go_session.specs.Session.{SessionState, unanswered, commands_left, CanGoOn}
+use Rattle.go_durable.proofs.Moments.{goes_on, settles_weaker}
 use Rattle.go_io.specs.Sink.{SinkState}
-use Rattle.go_run.specs.Driving.{HasDriven, Concludes, refusal_of, CountFits}
-use Rattle.go_run.specs.Input.{count_of}
-use Rattle.go_run.specs.Ran.{IsRefusedBy, RanCommands}
+use Rattle.go_plain.specs.Plain.{Origin, PlainState, AreQuotas, HasEnded, made_of}
+use Rattle.go_session.specs.Drives.{BrokenOff}
+use Rattle.go_session.specs.Session.{SessionState}
+use Rattle.go_run.specs.Course.{Course, IsLogFor, HasTerms, KeepsLog, LeavesFile, LeavesPart, AreOf}
+use Rattle.go_run.specs.Driving.{CanDrive, HasDriven, Concludes, refusal_of, CountFits, quota_in, tasks_in, terms_of}
+use Rattle.go_run.specs.Input.{Task, count_of}
+use Rattle.go_run.specs.Ran.{IsRefusedBy, Untaken, RanTasks}
+use Rattle.go_run.specs.Reading.{IsReady}
 use Rattle.go_run.specs.Run.{Run}
 use Rattle.go_run.specs.declared.status.Status.{Status}
 use Rattle.go_run.specs.declared.status.Status.TheVariants.{TooMuch, NotALog, OtherVertices, DiskFault, Memory}
-use Rattle.go_run.proofs.ComeLemmas.{course_of}
-use Rattle.go_run.proofs.EndLemmas.{RoseBy, can_drive, run_of, had_log, old_part, rose_by}
-use Rattle.go_run.proofs.OutcomeLemmas.{ran_refused, ran_concluded, laid_none}
+use Rattle.go_run.proofs.DrivenLemmas.{halted_breaks, can_halt_all}
+use Rattle.go_run.proofs.OpenedLemmas.{HasOpened, had_log, told_on, is_told, old_part, made_can_drive, opened_left}
+use Rattle.go_run.proofs.OutcomeLemmas.{IsLeftWhole, HaveRun, IsRun, ran_short, ran_refused, ran_concluded}
+use Rattle.go_run.proofs.SessionsLemmas.{are_kept, quotas_count, sum_quotas}
 
--- how many entries a session that has answered nothing may put
-pub counted : (session : SessionState) (commands : List Command) (puts : ℕ) → session ≡ unanswered 1 commands →
-    puts ≡ length (puts_of (commands_left session)) → puts ≡ count_of commands
-counted session commands puts is count = count ∙ ap (λ (s : SessionState). length (puts_of (commands_left s))) is
+-- how many entries sessions that are ready may put
+pub ready_count : (v : ℕ) (loads : List (List Edge)) (sessions : List SessionState) → IsReady v (tasks_in loads sessions) loads sessions →
+    sum (map (quota_in loads) sessions) ≡ count_of (tasks_in loads sessions)
+ready_count v loads sessions ready = sum_quotas loads sessions ∙ quotas_count loads sessions ready.new
 
 -- a file has no more entries than fit into it
 file_fits : (v : ℕ) (log : List Edge) (bytes : List ℕ) → File v log bytes → 8 * length log ≤ length bytes
@@ -67,86 +71,183 @@ fits v puts contents (faults.TooMany count disk) few answer =
 fits v puts contents (faults.Disk disk) few answer = tt
 fits v puts contents (faults.Memory disk) few answer = tt
 
--- a log was opened for a run, with room for so many entries more
-pub record HasOpened {D : Type 0} (run : Run D) (puts : ℕ) (found : OpenedLog D) : Type 0 where
-  pub answer : (let answer : Result (OpenedLog D) (OpenFault D) = Ok found in
-      IsAnswerOf run.vertices (LOG_ENTRIES - puts) (run.device.contents run.begun) answer)
-  pub log : IsOpenedFor run.device run.vertices run.begun found
-  pub recovers : SettlesTo run.device run.begun found.log.disk (Recovers run.vertices found.edges)
+-- what is told at entry is told of the store's end, where it is told at the opening
+abbrev IsToldOn : {D : Type 0} → Run D → D → Type 1
+IsToldOn run opened = (P : Type 0) → IfSome (run.device.contents opened) (λ bytes. P) → IfSome (run.device.contents run.begun) (λ bytes. P)
 
-module _ {D : Type 0} (run : Run D) (commands : List Command) (puts : ℕ) (so_many : puts ≡ count_of commands) where
-  -- a run whose log wasn't opened
-  pub refused_ran : (ended : D) (fault : OpenFault D) (status : Status) →
-      (let answer : Result (OpenedLog D) (OpenFault D) = Err fault in IsAnswerOf run.vertices (LOG_ENTRIES - puts) (run.device.contents run.begun) answer) →
-      (let answer : Result (OpenedLog D) (OpenFault D) = Err fault in OpensOver run.device run.vertices run.begun answer) →
-      (let answer : Result (OpenedLog D) (OpenFault D) = Err fault in LeavesUntouched run.device run.begun answer) →
-      status ≡ refusal_of run.vertices puts fault → ended ≡ disk_of fault → RanCommands run commands run.sink ended status
-  refused_ran ended fault status answer moments untouched told back =
-      let result : Result (OpenedLog D) (OpenFault D) = Err fault in
-      let refused : IsRefusedBy run commands fault = record {
-        answer = subst (λ (n : ℕ). IsAnswerOf run.vertices (LOG_ENTRIES - n) (run.device.contents run.begun) result) so_many answer;
-        moments = moments;
-        untouched = untouched;
-      } in
-      let at_status = subst (λ (s : Status). RanCommands run commands run.sink (disk_of fault) s)
-      (sym (told ∙ ap (λ (n : ℕ). refusal_of run.vertices n fault) so_many)) (ran_refused run commands fault refused) in
-      subst (λ (d : D). RanCommands run commands run.sink d status) (sym back) at_status
+-- what is left at the store's end, over the vertices that were asked for
+left_whole : {D : Type 0} (run : Run D) (store : PlainState D) (disk : D) (durable : ℕ) (stop : Option Stop) → store.origin.vertices ≡ run.vertices →
+    IsToldOn run store.origin.disk → HasEnded run.device store (record { disk = disk; durable = durable; stop = stop }) → IsLeftWhole run store.log disk stop
+left_whole run store disk durable None same told ended =
+    let whole = ended.ends in
+    let Left : ℕ → Type 0 = λ n. HasImage (run.device.images disk) (File n store.log) in
+    record {
+      only = whole.only;
+      each = λ image is. subst (λ (n : ℕ). File n store.log image) same (whole.each image is);
+      one = told (Left run.vertices) (subst (λ (n : ℕ). IfSome (run.device.contents store.origin.disk) (λ bytes. Left n)) same whole.one);
+    }
+left_whole run store disk durable (Some why) same told ended = tt
 
-  -- what was found leaves room for what is put
-  found_room : (found : OpenedLog D) (bytes : List ℕ) → IsFound run.vertices (LOG_ENTRIES - puts) bytes found.edges →
-      IsFound run.vertices (LOG_ENTRIES - count_of commands) bytes found.edges
-  found_room found bytes is = subst (λ (n : ℕ). IsFound run.vertices (LOG_ENTRIES - n) bytes found.edges) so_many is
+-- a log was opened for sessions that are ready, over which a store of these numbers is made
+pub record IsOpenedOver {D : Type 0} (run : Run D) (loads : List (List Edge)) (sessions : List SessionState) (found : OpenedLog D) (setup : Setup)
+    : Type 0 where
+  pub puts : ℕ
+  pub so_many : puts ≡ count_of (tasks_in loads sessions)
+  pub few : puts ≤ LOG_ENTRIES
+  pub same_ring : setup.ring ≡ run.ring
+  pub opened : HasOpened run puts found
+  pub ready : IsReady run.vertices (tasks_in loads sessions) loads sessions
 
-  -- a run whose session came as far as it could
-  pub drive_ran : (few : puts ≤ LOG_ENTRIES) (session : SessionState) (sink : SinkState) (found : OpenedLog D) (setup : Setup) (stop : Option Stop)
-      (finished : Finished D) (status : Status) → HasOpened run puts found →
-      HasDriven run.device (unanswered 1 commands) (made_of found setup puts) session stop finished →
-      Concludes stop finished.stop session finished.durable run.sink sink status → RanCommands run commands sink finished.disk status
-  drive_ran few session sink found setup stop finished status opened driven concludes =
-      let answer = opened.answer in
-      let room = found_room found answer.bytes answer.answer in
-      let is_run = run_of run commands found setup puts session stop finished answer.bytes opened.log answer.shown room (omega (
-        arith,
-        few,
-        so_many,
-      )) opened.recovers driven in
-      ran_concluded run commands session stop finished.stop finished.disk finished.durable sink status is_run concludes
+module _ {D : Type 0} (run : Run D) (loads : List (List Edge)) (sessions : List SessionState) where
+  abbrev tasks : List Task
+  tasks = tasks_in loads sessions
 
-  -- one for which no store could be made
-  pub unmade_ran : (few : puts ≤ LOG_ENTRIES) (ended : D) (found : OpenedLog D) → HasOpened run puts found → ended ≡ found.log.disk →
-      RanCommands run commands run.sink ended Memory
-  unmade_ran few ended found opened back =
-      let old = found.edges in
-      let v = run.vertices in
-      let answer = opened.answer in
-      let had = had_log v commands (run.device.contents run.begun) old answer.bytes answer.shown (found_room found answer.bytes answer.answer)
-      (omega (arith, few, so_many)) in
-      let moments = settles_weaker run.device run.begun found.log.disk (Recovers v old) (RecoversPart v (length old) old)
-      (λ image is. old_part v old old image (take_all (length old) old (omega arith)) (omega arith) is) opened.recovers in
-      subst (λ (d : D). RanCommands run commands run.sink d Memory) (sym back) (
-        inr (inr (record {
-          course = record { old = old; log = old; own = [] };
-          keeps = record { had = had; laid = laid_none old (puts_of commands); moments = moments };
-        })),
-        refl,
-      )
+  module _ (puts : ℕ) (so_many : puts ≡ count_of tasks) where
+    -- a run whose log wasn't opened
+    pub refused_ran : (ended : D) (fault : OpenFault D) (status : Status) →
+        (let answer : Result (OpenedLog D) (OpenFault D) = Err fault in IsAnswerOf run.vertices (LOG_ENTRIES - puts) (run.device.contents run.begun) answer) →
+        (let answer : Result (OpenedLog D) (OpenFault D) = Err fault in OpensOver run.device run.vertices run.begun answer) →
+        (let answer : Result (OpenedLog D) (OpenFault D) = Err fault in LeavesUntouched run.device run.begun answer) →
+        status ≡ refusal_of run.vertices puts fault → ended ≡ disk_of fault → RanTasks run tasks run.sink ended status
+    refused_ran ended fault status answer moments untouched told back =
+        let result : Result (OpenedLog D) (OpenFault D) = Err fault in
+        let refused : IsRefusedBy run tasks fault = record {
+          answer = subst (λ (n : ℕ). IsAnswerOf run.vertices (LOG_ENTRIES - n) (run.device.contents run.begun) result) so_many answer;
+          moments = moments;
+          untouched = untouched;
+        } in
+        let at_status = subst (λ (s : Status). RanTasks run tasks run.sink (disk_of fault) s)
+        (sym (told ∙ ap (λ (n : ℕ). refusal_of run.vertices n fault) so_many)) (ran_refused run tasks fault refused) in
+        subst (λ (d : D). RanTasks run tasks run.sink d status) (sym back) at_status
 
--- a session can go on over the store that was made
-pub drive_can : {D : Type 0} (run : Run D) (commands : List Command) (puts : ℕ) (found : OpenedLog D) (setup : Setup) (store : PlainState D) →
-    puts ≡ count_of commands → IsScript commands → IsWithin run.vertices commands → HasOpened run puts found → store ≡ made_of found setup puts →
-    CanGoOn (unanswered 1 commands) (standing_of store)
-drive_can {D} run commands puts found setup store so_many script below opened made =
-    let short : length found.edges < 2 ^ 32 = omega (arith, opened.answer.answer.few) in
-    let can = can_drive run.device run.vertices run.begun found setup puts commands opened.log short below script (omega (arith, so_many)) in
-    subst (λ (p : PlainState D). CanGoOn (unanswered 1 commands) (standing_of p)) (sym made) can
+  module _ (found : OpenedLog D) (setup : Setup) (over : IsOpenedOver run loads sessions found setup) where
+    abbrev fresh : PlainState D
+    fresh = made_of found setup (map (quota_in loads) sessions)
 
--- the session that was driven is one of these commands, over the store that was made
-pub driven_from : {D : Type 0} (device : Device D) (old session : SessionState) (commands : List Command) (found : OpenedLog D) (setup : Setup) (puts : ℕ)
-    (store : PlainState D) (stop : Option Stop) (finished : Finished D) → old ≡ unanswered 1 commands → store ≡ made_of found setup puts →
-    HasDriven device old store session stop finished → HasDriven device (unanswered 1 commands) (made_of found setup puts) session stop finished
-driven_from {D} device old session commands found setup puts store stop finished is made driven =
-    let from_made = subst (λ (p : PlainState D). HasDriven device old p session stop finished) made driven in
-    subst (λ (s : SessionState). HasDriven device s (made_of found setup puts) session stop finished) is from_made
+    short : length found.edges < 2 ^ 32
+    short = omega (arith, over.opened.answer.answer.few)
+
+    -- sessions that are ready can be driven over the store that was made
+    pub drive_can : (store : PlainState D) → store ≡ fresh → CanDrive run.device loads sessions store
+    drive_can store made =
+        let found_ready = subst (λ (n : ℕ). IsReady n tasks loads sessions) (sym over.opened.log.vertices_are) over.ready in
+        subst (λ (s : PlainState D). CanDrive run.device loads sessions s) (sym made)
+        (made_can_drive run.device loads sessions found setup found_ready over.opened.log.opened.stands.so_many over.opened.log.opened.within short)
+
+    -- what is told of the terms
+    has_terms : (store : PlainState D) (log : List Edge) → store.origin ≡ fresh.origin → store.room ≡ fresh.room →
+        HasTerms run (record { old = found.edges; log = log; terms = terms_of run.device store })
+    has_terms store log origin room = record {
+      first = ap (λ (o : Origin D). o.first) origin;
+      vertices = ap (λ (o : Origin D). o.vertices) origin ∙ over.opened.log.vertices_are;
+      ring = room ∙ over.same_ring;
+      told = told_on (is_some (run.device.contents store.origin.disk) ≡ true) (run.device.contents run.begun) (run.device.contents found.log.disk)
+          over.opened.log.told
+          (subst (λ (d : D). IfSome (run.device.contents found.log.disk) (λ bytes. is_some (run.device.contents d) ≡ true))
+          (sym (ap (λ (o : Origin D). o.disk) origin)) (is_told (run.device.contents found.log.disk)));
+    }
+
+    -- what was at entry
+    had : IfSome (run.device.contents run.begun) (IsLogFor run.vertices tasks found.edges)
+    had =
+        let answer = over.opened.answer in
+        had_log run.vertices over.puts tasks (run.device.contents run.begun) found.edges answer.bytes answer.shown answer.answer over.so_many over.few
+
+    -- sessions that were driven over an opened log
+    run_of : (news : List SessionState) (stop : Option Stop) (finished : Finished D) → HasDriven run.device loads sessions fresh news stop finished →
+        IsRun run tasks news finished.durable finished.disk stop finished.stop
+    run_of news stop finished driven =
+        let device = run.device in
+        let v = run.vertices in
+        let store = driven.store in
+        let log = store.log in
+        let ended = driven.ended in
+        let onward = driven.onward in
+        let old = found.edges in
+        let first : store.origin.first ≡ length old = ap (λ (o : Origin D). o.first) onward.origin in
+        let vertices : store.origin.vertices ≡ v = ap (λ (o : Origin D). o.vertices) onward.origin ∙ over.opened.log.vertices_are in
+        let disk : store.origin.disk ≡ found.log.disk = ap (λ (o : Origin D). o.disk) onward.origin in
+        let told : IsToldOn run store.origin.disk = λ P has.
+        told_on P (device.contents run.begun) (device.contents found.log.disk) over.opened.log.told
+        (subst (λ (d : D). IfSome (device.contents d) (λ bytes. P)) disk has) in
+        let Just : ℕ → Type 0 = λ n. HasImage (device.images finished.disk) (Recovers n (take finished.durable log)) in
+        let one = subst (λ (n : ℕ). IfSome (device.contents store.origin.disk) (λ bytes. Just n)) vertices ended.one in
+        let later = subst (λ (n : ℕ). LeavesOnly device store.origin.disk finished.disk (RecoversPart n store.origin.first log)) vertices ended.moments in
+        let later_from = subst (λ (n : ℕ). LeavesOnly device store.origin.disk finished.disk (RecoversPart v n log)) first later in
+        let later_on = subst (λ (d : D). LeavesOnly device d finished.disk (RecoversPart v (length old) log)) disk later_from in
+        record {
+          course = record { old = old; log = log; terms = terms_of device store };
+          have = record {
+            loads = loads;
+            sessions = news;
+            are = are_kept 1 loads tasks sessions news over.ready.are onward.aims;
+            told = driven.told;
+            keeps = record {
+              had = had;
+              terms = has_terms store log onward.origin onward.room;
+              moments = goes_on device run.begun found.log.disk finished.disk (Recovers v old) (RecoversPart v (length old) log)
+                  (RecoversPart v (length old) log)
+                  (λ image is. old_part v old log image onward.begins onward.longer is) (λ image is. is) over.opened.recovers later_on;
+            };
+            left = record {
+              least = omega (arith, over.opened.log.opened.stands.so_many, onward.no_less, ended.no_less);
+              most = ended.most;
+              each = λ image is. subst (λ (n : ℕ). RecoversPart n finished.durable log image) vertices (ended.each image is);
+              one = told (Just v) one;
+            };
+            broken = driven.broken;
+          };
+          these = refl;
+          drives = driven.drives;
+          whole = left_whole run store finished.disk finished.durable finished.stop vertices told ended;
+        }
+
+    -- a run whose sessions came as far as they could
+    pub drive_ran : (news : List SessionState) (sink : SinkState) (stop : Option Stop) (finished : Finished D) (status : Status) (store : PlainState D) →
+        store ≡ fresh → HasDriven run.device loads sessions store news stop finished →
+        Concludes stop finished.stop news finished.durable run.sink sink status → RanTasks run tasks sink finished.disk status
+    drive_ran news sink stop finished status store made driven concludes =
+        let from_made = subst (λ (p : PlainState D). HasDriven run.device loads sessions p news stop finished) made driven in
+        ran_concluded run tasks news finished.disk finished.durable sink status stop finished.stop (run_of news stop finished from_made) concludes
+
+    -- one for which no store could be made
+    pub unmade_ran : (rules : IsDevice run.device) (ended : D) → ended ≡ found.log.disk → RanTasks run tasks run.sink ended Memory
+    unmade_ran rules ended back =
+        let old = found.edges in
+        let v = run.vertices in
+        let n = length old in
+        let whole : take n old ≡ old = take_all n old (omega arith) in
+        let halted = can_halt_all run.device loads sessions fresh (drive_can fresh refl).can in
+        let both = halted_breaks run.device loads sessions fresh n halted (omega arith) (omega arith) in
+        let course : Course = record { old = old; log = old; terms = terms_of run.device fresh } in
+        let have : HaveRun run tasks course n found.log.disk = record {
+          loads = loads;
+          sessions = sessions;
+          are = over.ready.are;
+          told = both.1;
+          keeps = record {
+            had = had;
+            terms = has_terms fresh old refl refl;
+            moments = settles_weaker run.device run.begun found.log.disk (Recovers v old) (RecoversPart v n old)
+                (λ image is. old_part v old old image whole (omega arith) is) over.opened.recovers;
+          };
+          left = opened_left run rules found course refl refl over.opened.log;
+          broken = subst (λ (l : List Edge). BrokenOff (terms_of run.device fresh) loads l old n sessions) whole both.0;
+        } in
+        subst (λ (d : D). RanTasks run tasks run.sink d Memory) (sym back) (ran_short run tasks course n found.log.disk run.sink Memory have (refl, refl))
+
+-- where the disk stopped the store's end, its count of faults rose since the opening
+abbrev pub RoseBy : Option Stop → ℕ → ℕ → Type 0
+RoseBy (Some stops.Disk) before now = Rose before now
+RoseBy (Some stops.Memory) before now = Unit {0}
+RoseBy None before now = Unit {0}
+
+pub rose_by : {D : Type 0} (device : Device D) (store : PlainState D) (disk : D) (durable before : ℕ) (stop : Option Stop) →
+    before ≤ device.faults store.origin.disk →
+    HasEnded device store (record { disk = disk; durable = durable; stop = stop }) → RoseBy stop before (device.faults disk)
+rose_by device store disk durable before None later ended = tt
+rose_by device store disk durable before (Some stops.Disk) later ended = omega (arith, later, ended.ends)
+rose_by device store disk durable before (Some stops.Memory) later ended = tt
 
 -- a refusal tells a fault of the disk only where one came
 pub refused_rose : {D : Type 0} (device : Device D) (v puts : ℕ) (begun : D) (fault : OpenFault D) →
@@ -160,16 +261,16 @@ refused_rose device v puts begun (faults.Disk disk) tells is = tells
 refused_rose device v puts begun (faults.Memory disk) tells is = let other : Memory ≡ DiskFault = is in absurd (cc)
 
 -- a run tells a fault of the disk only where the store's end met one
-pub concluded_fault : (stop last : Option Stop) (session : SessionState) (durable : ℕ) (before after : SinkState) (status : Status) (first now : ℕ) →
-    Concludes stop last session durable before after status → RoseBy last first now → status ≡ DiskFault → Rose first now
-concluded_fault None None session durable before after status first now ends rose is =
-    absurd (subst (λ (s : Status). Concludes None None session durable before after s) is ends)
-concluded_fault (Some why) None session durable before after status first now ends rose is = let other : Memory ≡ DiskFault = sym ends.0 ∙ is in absurd (cc)
-concluded_fault stop (Some stops.Disk) session durable before after status first now ends rose is = rose
-concluded_fault None (Some stops.Memory) session durable before after status first now ends rose is = let other : Memory ≡ DiskFault = sym ends.0
-    ∙ is in absurd (cc)
-concluded_fault (Some why) (Some stops.Memory) session durable before after status first now ends rose is = let other : Memory ≡ DiskFault = sym ends.0
-    ∙ is in absurd (cc)
+pub concluded_fault : (stop last : Option Stop) (sessions : List SessionState) (durable : ℕ) (before after : SinkState) (status : Status) (first now : ℕ) →
+    Concludes stop last sessions durable before after status → RoseBy last first now → status ≡ DiskFault → Rose first now
+concluded_fault None None sessions durable before after status first now ends rose is =
+    absurd (subst (λ (s : Status). Concludes None None sessions durable before after s) is ends)
+concluded_fault (Some why) None sessions durable before after status first now ends rose is = let other : Memory ≡ DiskFault = sym ends.0 ∙ is in absurd (cc)
+concluded_fault stop (Some stops.Disk) sessions durable before after status first now ends rose is = rose
+concluded_fault None (Some stops.Memory) sessions durable before after status first now ends rose is =
+    let other : Memory ≡ DiskFault = sym ends.0 ∙ is in absurd (cc)
+concluded_fault (Some why) (Some stops.Memory) sessions durable before after status first now ends rose is =
+    let other : Memory ≡ DiskFault = sym ends.0 ∙ is in absurd (cc)
 
 -- an opening that was refused asked for no range that isn't there
 pub refused_blunders : {D : Type 0} (device : Device D) (v : ℕ) (begun : D) (fault : OpenFault D) →
@@ -184,21 +285,62 @@ refused_blunders device v begun (faults.Disk disk) opens = elim opens [
 ]
 refused_blunders device v begun (faults.Memory disk) opens = opens.passes.blunders
 
--- what a session that was driven over an opened log left of the disk's counts
+-- what sessions that were driven over an opened log left of the disk's counts
 pub record HasCounted {D : Type 0} (device : Device D) (begun : D) (finished : Finished D) : Type 0 where
   pub no_blunder : device.blunders finished.disk ≡ device.blunders begun
   pub later : device.faults begun ≤ device.faults finished.disk
   pub rose : RoseBy finished.stop (device.faults begun) (device.faults finished.disk)
 
-pub driven_counts : {D : Type 0} (device : Device D) (begun : D) (found : OpenedLog D) (setup : Setup) (quota : ℕ) (old session : SessionState)
-    (store : PlainState D)
-    (stop : Option Stop) (finished : Finished D) (P : List ℕ → Type 0) → store ≡ made_of found setup quota → HasDriven device old store session stop finished →
-    SettlesTo device begun found.log.disk P → device.faults begun ≤ device.faults found.log.disk → HasCounted device begun finished
-driven_counts {D} device begun found setup quota old session store stop finished P made driven settles count =
-    let disk : driven.store.origin.disk ≡ found.log.disk = ap (λ (o : Origin D). o.disk) driven.same ∙ ap (λ (s : PlainState D). s.origin.disk) made in
+pub driven_counts : {D : Type 0} (device : Device D) (begun : D) (found : OpenedLog D) (loads : List (List Edge)) (olds news : List SessionState)
+    (store : PlainState D) (stop : Option Stop) (finished : Finished D) (P : List ℕ → Type 0) → store.origin.disk ≡ found.log.disk →
+    HasDriven device loads olds store news stop finished → SettlesTo device begun found.log.disk P → device.faults begun ≤ device.faults found.log.disk →
+    HasCounted device begun finished
+driven_counts {D} device begun found loads olds news store stop finished P made driven settles count =
+    let disk : driven.store.origin.disk ≡ found.log.disk = ap (λ (o : Origin D). o.disk) driven.onward.origin ∙ made in
     let since_then : device.faults begun ≤ device.faults driven.store.origin.disk = subst (λ (d : D). device.faults begun ≤ device.faults d) (sym disk) count in
     record {
       no_blunder = driven.ended.moments.passes.blunders ∙ ap device.blunders disk ∙ settles.passes.blunders;
       later = omega (arith, since_then, driven.ended.count);
       rose = rose_by device driven.store finished.disk finished.durable (device.faults begun) finished.stop since_then driven.ended;
     }
+
+-- what sessions that are ready may put, by the quotas that were counted of them
+pub few_quotas : (v : ℕ) (loads : List (List Edge)) (sessions : List SessionState) → IsReady v (tasks_in loads sessions) loads sessions →
+    sum_by (quota_in loads) sessions ≤ LOG_ENTRIES
+few_quotas v loads sessions ready = omega (arith, quotas_count loads sessions ready.new, ready.can_run.few)
+
+-- the quotas are those of the sessions, and so many are they together
+pub record AreCounted (loads : List (List Edge)) (sessions : List SessionState) (quotas : List ℕ) (puts : ℕ) : Type 0 where
+  pub quotas_are : quotas ≡ map (quota_in loads) sessions
+  pub total : puts ≡ sum quotas
+
+pub counted : (loads : List (List Edge)) (sessions lent : List SessionState) (quotas shown : List ℕ) (puts : ℕ) → lent ≡ sessions →
+    quotas ≡ map (quota_in loads) lent → shown ≡ quotas → puts ≡ sum shown → AreCounted loads sessions quotas puts
+counted loads sessions lent quotas shown puts same are seen total = record {
+  quotas_are = are ∙ ap (λ (l : List SessionState). map (quota_in loads) l) same;
+  total = total ∙ ap (λ (l : List ℕ). sum l) seen;
+}
+
+pub counted_puts : (v : ℕ) (loads : List (List Edge)) (sessions : List SessionState) (quotas : List ℕ) (puts : ℕ) →
+    IsReady v (tasks_in loads sessions) loads sessions → AreCounted loads sessions quotas puts → puts ≡ count_of (tasks_in loads sessions)
+counted_puts v loads sessions quotas puts ready is = is.total ∙ ap (λ (l : List ℕ). sum l) is.quotas_are ∙ ready_count v loads sessions ready
+
+-- the store has room for them
+pub quotas_fit : (v : ℕ) (loads : List (List Edge)) (sessions : List SessionState) (quotas : List ℕ) (puts n : ℕ) →
+    IsReady v (tasks_in loads sessions) loads sessions → AreCounted loads sessions quotas puts → n ≤ LOG_ENTRIES - puts → AreQuotas n quotas
+quotas_fit v loads sessions quotas puts n ready is room =
+    let long = ap (λ (l : List ℕ). length l) is.quotas_are in
+    let each = length-map sessions (quota_in loads) in
+    let count = counted_puts v loads sessions quotas puts ready is in
+    record {
+      some = omega (arith, long, each, ready.some);
+      few = omega (arith, long, each, ready.few);
+      room = omega (arith, is.total, count, ready.can_run.few, room);
+    }
+
+-- and is the one that was made for them
+pub made_same : {D : Type 0} (loads : List (List Edge)) (sessions : List SessionState) (quotas shown : List ℕ) (puts : ℕ) (found : OpenedLog D) (setup : Setup)
+    (store : PlainState D) → AreCounted loads sessions quotas puts → shown ≡ quotas → store ≡ made_of found setup shown →
+    store ≡ made_of found setup (map (quota_in loads) sessions)
+made_same loads sessions quotas shown puts found setup store is seen made =
+    made ∙ ap (λ (l : List ℕ). made_of found setup l) (seen ∙ is.quotas_are)

@@ -1,6 +1,6 @@
 -- How words begin that write a part: what the first word is settles the part.
 use Rattle.std.proofs.Common.{◌≡◌, ◌≢◌, ◌⊎◌, ℕ, ◌==◌, Bool, true, false, not, if◌then◌else◌, IsTrue, List}
-use Rattle.std.proofs.Common.{[], ◌∷◌, ◌++◌, length, refl, sym, ap, subst, arith, ◌∙◌, inl, inr}
+use Rattle.std.proofs.Common.{[], ◌∷◌, ◌++◌, codes, bytes_eq, length, refl, sym, ap, subst, arith, ◌∙◌, inl, inr}
 use Rattle.std.specs.List.{before_first, after_first}
 use Rattle.go_run.specs.declared.setting.Setting.{Setting}
 use Rattle.go_run.specs.declared.setting.Setting.TheVariants as settings
@@ -12,12 +12,16 @@ dashed settings.Vertices behind = refl
 dashed settings.Ring behind = refl
 dashed settings.Shards behind = refl
 dashed settings.Log behind = refl
+dashed settings.Edges behind = refl
+dashed settings.Seed behind = refl
 
 dashed_alone : (setting : Setting) → has_dash (name_of setting) ≡ true
 dashed_alone settings.Vertices = refl
 dashed_alone settings.Ring = refl
 dashed_alone settings.Shards = refl
 dashed_alone settings.Log = refl
+dashed_alone settings.Edges = refl
+dashed_alone settings.Seed = refl
 
 -- it has no equals sign, so that one behind it is the first
 before_sign : (setting : Setting) (value : List ℕ) → before_first (λ b. b == 61) (name_of setting ++ 61 ∷ value) ≡ name_of setting
@@ -25,25 +29,37 @@ before_sign settings.Vertices value = refl
 before_sign settings.Ring value = refl
 before_sign settings.Shards value = refl
 before_sign settings.Log value = refl
+before_sign settings.Edges value = refl
+before_sign settings.Seed value = refl
 
 behind_sign : (setting : Setting) (value : List ℕ) → after_first (λ b. b == 61) (name_of setting ++ 61 ∷ value) ≡ value
 behind_sign settings.Vertices value = refl
 behind_sign settings.Ring value = refl
 behind_sign settings.Shards value = refl
 behind_sign settings.Log value = refl
+behind_sign settings.Edges value = refl
+behind_sign settings.Seed value = refl
 
--- the words of settings are of different lengths
-abbrev by_length : ℕ → Setting
-by_length n = if n == 10 then settings.Vertices else (if n == 6 then settings.Ring else (if n == 8 then settings.Shards else settings.Log))
+-- a setting is told by its word
+abbrev by_word : List ℕ → Setting
+by_word word =
+    if bytes_eq word (codes "--vertices") then settings.Vertices
+    else (if bytes_eq word (codes "--ring") then settings.Ring
+    else (if bytes_eq word (codes "--shards") then settings.Shards
+    else (if bytes_eq word (codes "--log") then settings.Log
+    else (if bytes_eq word (codes "--edges") then settings.Edges
+    else settings.Seed))))
 
-by_its_length : (setting : Setting) → by_length (length (name_of setting)) ≡ setting
-by_its_length settings.Vertices = refl
-by_its_length settings.Ring = refl
-by_its_length settings.Shards = refl
-by_its_length settings.Log = refl
+by_its_word : (setting : Setting) → by_word (name_of setting) ≡ setting
+by_its_word settings.Vertices = refl
+by_its_word settings.Ring = refl
+by_its_word settings.Shards = refl
+by_its_word settings.Log = refl
+by_its_word settings.Edges = refl
+by_its_word settings.Seed = refl
 
 one_setting : (a b : Setting) → name_of a ≡ name_of b → a ≡ b
-one_setting a b same = sym (by_its_length a) ∙ ap (λ (word : List ℕ). by_length (length word)) same ∙ by_its_length b
+one_setting a b same = sym (by_its_word a) ∙ ap by_word same ∙ by_its_word b
 
 one_choice : (a b : Setting) (value other : List ℕ) → name_of a ++ 61 ∷ value ≡ name_of b ++ 61 ∷ other → (a ≡ b) × (value ≡ other)
 one_choice a b value other same = (
@@ -61,12 +77,16 @@ sign_in settings.Vertices value = refl
 sign_in settings.Ring value = refl
 sign_in settings.Shards value = refl
 sign_in settings.Log value = refl
+sign_in settings.Edges value = refl
+sign_in settings.Seed value = refl
 
 no_sign_in : (setting : Setting) → has_sign (name_of setting) ≡ false
 no_sign_in settings.Vertices = refl
 no_sign_in settings.Ring = refl
 no_sign_in settings.Shards = refl
 no_sign_in settings.Log = refl
+no_sign_in settings.Edges = refl
+no_sign_in settings.Seed = refl
 
 true_is_false : true ≡ false → ⊥
 true_is_false is = cc

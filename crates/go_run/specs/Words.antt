@@ -1,13 +1,15 @@
 -- What the words of the command line ask for.
 use Rattle.std.specs.Prelude.{◌≡◌, ◌⊎◌, ℕ, ◌≤◌, Bool, true, false, not, ◌==◌, IsTrue}
-use Rattle.std.specs.Prelude.{List, [], ◌∷◌, ◌++◌, codes, Option, Some, None, Ok, IfSome, option_to_list}
+use Rattle.std.specs.Prelude.{length, List, [], ◌∷◌, ◌++◌, codes, Option, Some, None, Ok, IfSome, option_to_list}
 use Rattle.std.specs.Prelude.{option_map}
 use Rattle.std.specs.Int.{IsPowerOfTwo}
 use Rattle.go_text.specs.Number.{number_of}
 use Rattle.go_word.specs.declared.edge.TheConstants.{VERTEX_LIMIT}
 use Rattle.go_api.specs.declared.limits.TheConstants.{FEWEST_SLOTS, SLOT_LIMIT, SHARD_LIMIT}
 use Rattle.go_api.specs.declared.setup.Setup.{Setup}
-use Rattle.go_run.specs.declared.limits.TheConstants.{VERTICES, RING, SHARDS}
+use Rattle.go_run.specs.declared.limits.TheConstants.{VERTICES, RING, SHARDS, SCRIPTS, EDGES, SEED_LIMIT}
+use Rattle.go_run.specs.Work.{Work}
+use Rattle.go_run.specs.Work.Work.{driving, generating}
 use Rattle.go_run.specs.declared.setting.Setting.{Setting}
 use Rattle.go_run.specs.declared.setting.Setting.TheVariants as settings
 
@@ -27,6 +29,8 @@ name_of settings.Vertices = codes "--vertices"
 name_of settings.Ring = codes "--ring"
 name_of settings.Shards = codes "--shards"
 name_of settings.Log = codes "--log"
+name_of settings.Edges = codes "--edges"
+name_of settings.Seed = codes "--seed"
 
 -- one thing that words say: that this value is chosen for a setting, or that a file has this name
 pub data Part : Type 0 where
@@ -61,6 +65,8 @@ value_in settings.Vertices (chosen settings.Vertices value) = Some value
 value_in settings.Ring (chosen settings.Ring value) = Some value
 value_in settings.Shards (chosen settings.Shards value) = Some value
 value_in settings.Log (chosen settings.Log value) = Some value
+value_in settings.Edges (chosen settings.Edges value) = Some value
+value_in settings.Seed (chosen settings.Seed value) = Some value
 value_in _ _ = None
 
 -- the file that a part names, if it does
@@ -84,6 +90,12 @@ IsChosen Means usual [] it = it ≡ usual
 IsChosen Means usual (value ∷ []) it = Means value it
 IsChosen Means usual (value ∷ other ∷ values) it = ⊥
 
+-- just one value is chosen, and it is what the value means
+abbrev pub IsGiven : {A : Type 0} → (List ℕ → A → Type 0) → List (List ℕ) → A → Type 0
+IsGiven Means [] it = ⊥
+IsGiven Means (value ∷ []) it = Means value it
+IsGiven Means (value ∷ other ∷ values) it = ⊥
+
 -- the value is the number in decimal digits, and the number is within these limits
 abbrev pub IsNumber : ℕ → ℕ → List ℕ → ℕ → Type 0
 IsNumber least most value n = (number_of most value ≡ Ok n) × (least ≤ n)
@@ -100,20 +112,30 @@ IsText value text = text ≡ value
 abbrev pub usual_log : List ℕ
 usual_log = codes "graph.log"
 
--- what is asked for: the numbers of a store, a script's name, and the name of a log file
+-- what is asked for: the numbers of a store, what the program is to do, and the name of a log file
 pub record Asked : Type 0 where
   pub setup : Setup
-  pub file : List ℕ
+  pub work : Work
   pub log : List ℕ
 
--- the words ask for this: behind `drive` they write parts, in any order, that name one file and choose no setting twice, and each thing is what is chosen or
--- the usual one
+-- the word that asks for it
+abbrev pub command_of : Work → List ℕ
+command_of (driving names) = codes "drive"
+command_of (generating count seed) = codes "gen"
+
+-- it is asked for by these files, and these values of `--edges` and `--seed`: some scripts, and not too many, or entries that are generated
+abbrev pub IsWork : Work → List (List ℕ) → List (List ℕ) → List (List ℕ) → Type 0
+IsWork (driving names) files edges seeds = (files ≡ names) × (1 ≤ length files) × (length files ≤ SCRIPTS) × (edges ≡ []) × (seeds ≡ [])
+IsWork (generating count seed) files edges seeds =
+    (files ≡ []) × IsGiven (IsNumber 1 EDGES) edges count × IsGiven (IsNumber 0 SEED_LIMIT) seeds seed
+
+-- the words ask for this: behind the command they write parts, in any order, that choose no setting twice, and each thing is what is chosen or the usual one
 pub record Asks (words : List (List ℕ)) (asked : Asked) : Type 0 where
   pub parts : List Part
   pub others : List (List ℕ)
-  pub command : words ≡ codes "drive" ∷ others
+  pub command : words ≡ command_of asked.work ∷ others
   pub written : Writes parts others
-  pub file : files_in parts ≡ asked.file ∷ []
+  pub work : IsWork asked.work (files_in parts) (values_in settings.Edges parts) (values_in settings.Seed parts)
   pub vertices : IsChosen (IsNumber 1 VERTEX_LIMIT) VERTICES (values_in settings.Vertices parts) asked.setup.vertices
   pub ring : IsChosen IsRing RING (values_in settings.Ring parts) asked.setup.ring
   pub shards : IsChosen (IsNumber 1 SHARD_LIMIT) SHARDS (values_in settings.Shards parts) asked.setup.shards
@@ -130,14 +152,14 @@ pub record OverAsked (words : List (List ℕ)) (Holds : Option Asked → Type 0)
   pub is_asked : IsAskedBy words asked
   pub holds : Holds asked
 
--- how many vertices are asked for, or usual
-abbrev pub vertices_asked : Option Asked → ℕ
-vertices_asked None = VERTICES
-vertices_asked (Some asked) = asked.setup.vertices
+-- the numbers of the store that are asked for, or usual
+abbrev pub setup_asked : Option Asked → Setup
+setup_asked None = record { vertices = VERTICES; ring = RING; shards = SHARDS }
+setup_asked (Some asked) = asked.setup
 
--- the script's name
-abbrev pub file_asked : Option Asked → Option (List ℕ)
-file_asked asked = option_map (λ it. it.file) asked
+-- what the program is to do
+abbrev pub work_asked : Option Asked → Option Work
+work_asked asked = option_map (λ it. it.work) asked
 
 -- the log file's name
 abbrev pub log_asked : Option Asked → Option (List ℕ)

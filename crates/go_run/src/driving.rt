@@ -1,49 +1,75 @@
-// Bringing a session as far as it comes.
-ghost use Rattle.go_plain.specs.Plain.{standing_of};
-ghost use Rattle.go_session.specs.Session.{CanGoOn};
-ghost use Rattle.go_run.specs.Driving.{HasCome, HasDriven};
+// Bringing sessions as far as they come.
+ghost use Rattle.go_run.specs.Driving.{CanAllTurn, CanDrive, Comes, HasDriven};
+ghost use Rattle.go_run.specs.Reading.{WaitsForCertain};
 
-use go_api::{Stop, Store};
+use crate::turns::{Round, go_round};
+use go_api::Stop;
 use go_disk::Disk;
 use go_durable::Finished;
 use go_io::Gate;
 use go_plain::PlainStore;
-use go_session::{Session, Step};
+use go_session::Session;
+use go_word::Edges;
 
-/// A session that came as far as it could, what stopped it, and what is left of its store.
+/// Sessions that came as far as they could, what stopped one of them, and what is left of their store.
 #[derive(Drop)]
 pub struct Driven<D> {
-    pub session: Session,
+    pub sessions: Vec<Session>,
     pub stop: Option<Stop>,
     pub finished: Finished<D>,
 }
 
-/// Steps a session over a store until it has answered all or the store stops, and then ends the store.
-pub fn drive<D: Disk, G: Gate>(session: Session, store: PlainStore<D>, gate: &G) -> Driven<D>
-    requires { CanGoOn session (standing_of store) }
-    ensures { HasDriven D.device session store result.session result.stop result.finished }
+// What stopped a session, with the store as it was left.
+#[derive(Drop)]
+struct Left<D: Disk> {
+    stop: Option<Stop>,
+    store: PlainStore<D>,
+}
+
+/// Gives sessions their turns over one store, one command of each in its turn, until all have ended or one was stopped, and
+/// then ends the store.
+pub fn drive<D: Disk, G: Gate>(
+    sessions: Vec<Session>,
+    store: PlainStore<D>,
+    loads: &[Edges],
+    gate: &G,
+) -> Driven<D>
+    requires { CanDrive D.device loads.now sessions.items store }
+    ensures { HasDriven D.device loads.now sessions.items store result.sessions.items result.stop result.finished }
 {
-    let mut session = session;
-    let mut handle = store.session(1);
-    let stop = answer_all(&mut session, &mut handle, gate);
+    let mut sessions = sessions;
+    let left = answer_all(&mut sessions, store, loads, gate);
     Driven {
-        session,
-        stop,
-        finished: handle.back().finish(),
+        sessions,
+        stop: left.stop,
+        finished: left.store.finish(),
     }
 }
 
-// Steps a session until it has answered all or the store stops.
-fn answer_all<S: Store, G: Gate>(session: &mut Session, store: &mut S, gate: &G) -> Option<Stop>
-    requires { CanGoOn session.old (S.stands store.old) }
-    ensures came { HasCome result session.old session.new (S.stands store.old) (S.stands store.new) }
-    ensures became { S.became store.old store.new }
+// Goes round after round until all sessions have ended or one was stopped.
+fn answer_all<D: Disk, G: Gate>(
+    sessions: &mut [Session],
+    store: PlainStore<D>,
+    loads: &[Edges],
+    gate: &G,
+) -> Left<D>
+    requires can { CanAllTurn D.device loads.now sessions.old store }
+    requires waits { WaitsForCertain loads.now sessions.old }
+    ensures { Comes D.device loads.now result.stop sessions.old sessions.new store result.store }
 {
+    let mut store = store;
     loop {
-        match session.step(store, gate) {
-            Step::Did => {}
-            Step::Ended => return None,
-            Step::Stopped { why } => return Some(why),
+        let rounded = go_round(sessions, store, loads, gate);
+        store = rounded.store;
+        match rounded.round {
+            Round::Goes => {}
+            Round::Ended => return Left { stop: None, store },
+            Round::Stopped { why } => {
+                return Left {
+                    stop: Some(why),
+                    store,
+                };
+            }
         }
     }
 }

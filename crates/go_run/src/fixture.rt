@@ -145,3 +145,55 @@ pub(crate) fn run_on<R: Threads + Wait + Sync>(
 ) -> Result<Ended, AllocError> {
     run_small(rt, alloc, script, MemDisk::new(alloc, bytes, 4096)?)
 }
+
+// A shelf with texts by their names.
+pub(crate) fn shelf_of(alloc: Global, texts: &[(&str, &[u8])]) -> Result<MemShelf, AllocError> {
+    let mut shelf = MemShelf::new(alloc);
+    for (name, text) in texts {
+        shelf.add(&Text::of(alloc, name)?, text)?;
+    }
+    Ok(shelf)
+}
+
+// A run of these words over texts by their names, on an empty disk, with ample room.
+pub(crate) fn run_files<R: Threads + Wait + Sync>(
+    rt: &R,
+    alloc: Global,
+    words: &[&str],
+    texts: &[(&str, &[u8])],
+) -> Result<Ended, AllocError> {
+    let disk = MemDisk::new(alloc, b"", 65536)?;
+    run_files_on(rt, alloc, words, texts, disk)
+}
+
+// The same on this disk.
+pub(crate) fn run_files_on<R: Threads + Wait + Sync>(
+    rt: &R,
+    alloc: Global,
+    words: &[&str],
+    texts: &[(&str, &[u8])],
+    disk: MemDisk,
+) -> Result<Ended, AllocError> {
+    let sink = MemSink::new(alloc, 65536, 65536)?;
+    run_from(rt, alloc, words, shelf_of(alloc, texts)?, sink, disk)
+}
+
+// The words that drive these scripts over a small store.
+pub(crate) fn drive_small<'a>(
+    alloc: Global,
+    files: &[&'a str],
+) -> Result<Vec<&'a str>, AllocError> {
+    let mut words = Vec::new(alloc);
+    words.extend_from_slice(&["drive", "--vertices", "8", "--ring", "128", "--shards", "2"])?;
+    words.extend_from_slice(files)?;
+    Ok(words)
+}
+
+// So many times one text.
+pub(crate) fn repeated(alloc: Global, text: &[u8], count: usize) -> Result<Vec<u8>, AllocError> {
+    let mut all = Vec::new(alloc);
+    for _ in 0..count {
+        all.extend_from_slice(text)?;
+    }
+    Ok(all)
+}

@@ -1,19 +1,22 @@
-// What was found in the words so far: a value for each setting that was chosen, and the file.
+// What was found in the words so far: a value for each setting that was chosen, and the files.
 ghost use Rattle.std.specs.Prelude.{◌≡◌, not, Some, option_copied};
 ghost use Rattle.go_run.specs.Words.{has_dash, is_value, chosen, named};
 ghost use Rattle.go_run.specs.Found.{nothing_kept, kept_of, kept_in, put, first_of};
 
+use crate::names::Names;
 use crate::setting::{Setting, has_dash};
 use go_text::Text;
 
 /// What was found in the words so far.
-#[derive(Clone, Copy)]
+#[derive(Drop)]
 pub struct Found<'a> {
     pub vertices: Option<&'a str>,
     pub ring: Option<&'a str>,
     pub shards: Option<&'a str>,
     pub log: Option<&'a str>,
-    pub file: Option<&'a Text>,
+    pub edges: Option<&'a str>,
+    pub seed: Option<&'a str>,
+    pub files: Names<'a>,
 }
 
 impl<'a> Found<'a> {
@@ -26,21 +29,25 @@ impl<'a> Found<'a> {
             ring: None,
             shards: None,
             log: None,
-            file: None,
+            edges: None,
+            seed: None,
+            files: Names::none(),
         }
     }
 
-    /// The same with a file; `None` where it is the second one, or its name begins with a dash.
+    /// The same with a file; `None` where there are too many, or its name begins with a dash.
     pub fn with_file(self, file: &'a Text) -> Option<Found<'a>>
         ensures { kept_in result ≡ put (kept_of self.entry) (named file.now) }
     {
-        if self.file.is_some() || has_dash(file.bytes()) {
+        if has_dash(file.bytes()) {
             return None;
         }
-        Some(Found {
-            file: Some(file),
-            ..self
-        })
+        let mut found = self;
+        if found.files.push(file) {
+            Some(found)
+        } else {
+            None
+        }
     }
 
     /// The same with a setting's value; `None` where it is the setting's second one, or may be no value.
@@ -62,6 +69,14 @@ impl<'a> Found<'a> {
             }),
             Setting::Log => Some(Found {
                 log: Some(first(self.log, value)?),
+                ..self
+            }),
+            Setting::Edges => Some(Found {
+                edges: Some(first(self.edges, value)?),
+                ..self
+            }),
+            Setting::Seed => Some(Found {
+                seed: Some(first(self.seed, value)?),
                 ..self
             }),
         }

@@ -14,20 +14,29 @@
 
 mod driving;
 mod error_line;
+mod files;
 mod found;
-mod input;
+mod generating;
+mod judging;
+mod known;
 mod limits;
+mod lists;
+mod named_text;
+mod names;
 mod outcome;
 mod output;
+mod reading;
 mod running;
 mod setting;
+mod starting;
 mod status;
 mod top;
+mod turns;
 mod wanted;
 mod words;
 
 pub use error_line::message;
-pub use limits::{LOG_FILE, RING, SCRIPT_BYTES, SHARDS, VERTICES};
+pub use limits::{EDGES, LOG_FILE, RING, SCRIPTS, SHARDS, TEXT_BYTES, VERTICES};
 pub use outcome::Outcome;
 pub use status::Status;
 pub use top::{run, run_with};
@@ -36,9 +45,25 @@ pub use words::log_name;
 #[cfg(test)]
 mod block_tests;
 #[cfg(test)]
+mod command_tests;
+#[cfg(test)]
+mod compact_tests;
+#[cfg(test)]
 mod disk_tests;
 #[cfg(test)]
 mod fixture;
+#[cfg(test)]
+mod generator_tests;
+#[cfg(test)]
+mod large_tests;
+#[cfg(test)]
+mod reading_tests;
+#[cfg(test)]
+mod refusal_tests;
+#[cfg(test)]
+mod session_disk_tests;
+#[cfg(test)]
+mod session_tests;
 #[cfg(test)]
 mod tests;
 #[cfg(test)]

@@ -12,5 +12,14 @@ pub const SHARDS: u32 = 8;
 /// The name of the log file where no other is asked for.
 pub const LOG_FILE: &str = "graph.log";
 
-/// How many bytes a script may have.
-pub const SCRIPT_BYTES: u64 = 1 << 26;
+/// How many scripts may be run at once.
+pub const SCRIPTS: usize = 8;
+
+/// How many entries may be generated.
+pub const EDGES: u64 = 1_000_000;
+
+/// The greatest seed of generated entries.
+pub const SEED_LIMIT: u64 = u64::MAX;
+
+/// How many bytes a script or an edge file may have.
+pub const TEXT_BYTES: u64 = 1 << 26;

@@ -14,6 +14,10 @@ pub enum Setting {
     Shards,
     /// The name of the log file.
     Log,
+    /// How many entries are generated.
+    Edges,
+    /// What they are generated from.
+    Seed,
 }
 
 /// What a word is by itself.
@@ -65,6 +69,8 @@ fn setting_named(word: &str) -> Option<Setting>
         "--ring" => Some(Setting::Ring),
         "--shards" => Some(Setting::Shards),
         "--log" => Some(Setting::Log),
+        "--edges" => Some(Setting::Edges),
+        "--seed" => Some(Setting::Seed),
         _ => None,
     }
 }

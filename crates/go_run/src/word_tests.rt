@@ -17,13 +17,20 @@ fn text_of(name: &Option<Text>) -> &str {
 
 #[test]
 fn other_words_are_refused(rt: HostRuntime) -> Result<(), Fail> {
-    let cases: [&[&str]; 32] = [
+    let cases: [&[&str]; 39] = [
         &[],
         &["drive"],
         &["fly", "a.gs"],
         &["a.gs", "drive"],
-        &["gen", "--edges", "8", "--seed", "1"],
-        &["drive", "a.gs", "a.gs"],
+        &["gen"],
+        &["gen", "--edges", "8"],
+        &["gen", "--seed", "1"],
+        &["gen", "--edges", "0", "--seed", "1"],
+        &["gen", "--edges", "1000001", "--seed", "1"],
+        &["gen", "--edges=8", "--seed=18446744073709551616"],
+        &["gen", "--edges", "8", "--seed", "1", "a.gs"],
+        &["drive", "--seed", "1", "a.gs"],
+        &["drive", "1", "2", "3", "4", "5", "6", "7", "8", "9"],
         &["drive", "-"],
         &["drive", "-a.gs"],
         &["drive", "--", "a.gs"],

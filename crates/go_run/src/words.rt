@@ -1,12 +1,14 @@
 // Reading the words of the command line.
-ghost use Rattle.std.specs.Prelude.{◌≡◌, ◌∷◌, ◌<◌, ◌^◌, length, IfSome, IfOk};
+ghost use Rattle.std.specs.Prelude.{◌≡◌, ◌∷◌, ◌≤◌, length, Some, IfSome, IfOk};
+ghost use Rattle.go_run.specs.declared.wanted.Verb.{Verb as AnyVerb};
+ghost use Rattle.go_run.specs.declared.limits.TheConstants.{SCRIPTS};
 ghost use Rattle.go_api.specs.Limits.{IsSetup};
 ghost use Rattle.go_run.specs.Words.{IsAskedBy, OverAsked, log_asked};
-ghost use Rattle.go_run.specs.Found.{kept_of, kept_in, nothing_kept, Reads, StepsOver, asked_in};
+ghost use Rattle.go_run.specs.Found.{kept_of, kept_in, nothing_kept, Reads, StepsOver, asked_in, word_of_verb};
 
 use crate::found::Found;
 use crate::setting::{Word, word_of};
-use crate::wanted::{Wanted, wanted_by};
+use crate::wanted::{Verb, Wanted, wanted_by};
 use go_text::Text;
 use std::alloc::{AllocError, Global};
 
@@ -26,17 +28,27 @@ pub fn read_words(words: &[Text]) -> Option<Wanted<'_>>
     ensures asked { IsAskedBy words.now (asked_in result) }
     ensures setup { IfSome result (λ wanted. IsSetup wanted.setup) }
 {
-    match words {
-        [command, others @ ..] if command.bytes() == b"drive".as_slice() => {
-            wanted_by(find_all(others)?)
-        }
+    let (command, others) = words.split_first()?;
+    let verb = verb_of(command)?;
+    wanted_by(verb, find_all(others)?)
+}
+
+// The command that a word is.
+fn verb_of(word: &Text) -> Option<Verb>
+    ensures some { IfSome result (λ verb. word.now ≡ word_of_verb verb) }
+    ensures alone { (verb : AnyVerb) → word.now ≡ word_of_verb verb → result ≡ Some verb }
+{
+    match word.as_text() {
+        "drive" => Some(Verb::Drive),
+        "gen" => Some(Verb::Generate),
         _ => None,
     }
 }
 
 // What all these words choose and name.
 fn find_all(words: &[Text]) -> Option<Found<'_>>
-    ensures { Reads nothing_kept words.now (kept_in result) }
+    ensures reads { Reads nothing_kept words.now (kept_in result) }
+    ensures few { IfSome result (λ found. length (kept_of found).files ≤ SCRIPTS) }
 {
     let mut found = Found::nothing();
     let mut left = words;

@@ -1,39 +1,20 @@
--- The loop of `answer_all`.
-use Rattle.go_run.proofs.StepLemmas.{goes_nowhere, goes_further, fewer_left, comes_to_end, comes_to_stop}
+-- What round after round comes to.
+use Rattle.std.proofs.Common.{subst}
+use Rattle.go_run.specs.Driving.{Rounds}
+use Rattle.go_run.specs.declared.turns.Round.{Round}
+use Rattle.go_run.specs.declared.turns.Round.TheVariants.{Goes}
+use Rattle.go_run.proofs.TurnLemmas.{waits_on, go_further}
 use Rattle.go_run.proofs.driving.answer_all.Goals as goal
 
-pub loop-why-init : goal.loop-why-init
-loop-why-init g c = (goes_nowhere c.args.session.now (g.S.Store.stands c.args.store.now) c.requires, g.S.Store.same c.args.store.now)
-
-pub step-requires : goal.step-requires
-step-requires g c = c.loop-why.invariant.0.can
-
-pub loop-why-smaller : goal.loop-why-smaller
-loop-why-smaller g c = fewer_left c.loop-why.session c.step.new.self (g.S.Store.stands c.loop-why.store)
-    (g.S.Store.stands c.step.new.store) c.in-Did.ensures.stepped
-
-pub loop-why-preserved : goal.loop-why-preserved
-loop-why-preserved g c = (
-  goes_further c.args.session.now c.loop-why.session c.step.new.self (g.S.Store.stands c.args.store.now) (g.S.Store.stands c.loop-why.store)
-      (g.S.Store.stands c.step.new.store)
-      c.loop-why.invariant.0 c.in-Did.ensures.stepped,
-  g.S.Store.onwards c.args.store.now c.loop-why.store c.step.new.store c.loop-why.invariant.1 c.in-Did.ensures.became,
-)
-
-pub returns-in-Ended-clause-came : goal.returns-in-Ended-clause-came
-returns-in-Ended-clause-came g c =
-    comes_to_end c.args.session.now c.loop-why.session c.step.new.self (g.S.Store.stands c.args.store.now) (g.S.Store.stands c.loop-why.store)
-    (g.S.Store.stands c.step.new.store)
-    c.loop-why.invariant.0 c.in-Ended.ensures.stepped
-
-pub returns-in-Ended-clause-became : goal.returns-in-Ended-clause-became
-returns-in-Ended-clause-became g c = g.S.Store.onwards c.args.store.now c.loop-why.store c.step.new.store c.loop-why.invariant.1 c.in-Ended.ensures.became
-
-pub returns-in-Stopped-clause-came : goal.returns-in-Stopped-clause-came
-returns-in-Stopped-clause-came g c =
-    comes_to_stop c.in-Stopped.why c.args.session.now c.loop-why.session c.step.new.self (g.S.Store.stands c.args.store.now)
-    (g.S.Store.stands c.loop-why.store) (g.S.Store.stands c.step.new.store)
-    c.loop-why.invariant.0 c.in-Stopped.ensures.stepped
-
-pub returns-in-Stopped-clause-became : goal.returns-in-Stopped-clause-became
-returns-in-Stopped-clause-became g c = g.S.Store.onwards c.args.store.now c.loop-why.store c.step.new.store c.loop-why.invariant.1 c.in-Stopped.ensures.became
+pub loop-store-preserved : goal.loop-store-preserved
+loop-store-preserved g c =
+    let Came : Round → Type 0 = λ round. Rounds g.D.Disk.device c.args.loads.now round c.loop-store.sessions c.go_round-rounded.new.sessions
+    c.loop-store.store c.go_round-rounded.result.store in
+    let gone : Came Goes = subst Came c.in-Goes.is c.go_round-rounded.ensures in
+    let was = c.loop-store.invariant in
+    record {
+      can = gone.can;
+      onward = go_further c.args.sessions.now c.loop-store.sessions c.go_round-rounded.new.sessions c.args.store c.loop-store.store
+          c.go_round-rounded.result.store was.onward gone.onward;
+      waits = waits_on c.args.loads.now c.loop-store.sessions c.go_round-rounded.new.sessions gone.onward.aims was.waits;
+    }

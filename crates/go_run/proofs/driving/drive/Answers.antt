@@ -1,9 +1,17 @@
--- What `drive` leads to.
-use Rattle.go_run.proofs.EndLemmas.{driven_of}
+-- What driving sessions comes to.
+use Rattle.std.proofs.Common.{◌≡◌, List, length, arith, subst, sym}
+use Rattle.go_session.specs.Session.{SessionState}
+use Rattle.go_run.specs.Reading.{WaitsForCertain}
+use Rattle.go_run.proofs.DrivenLemmas.{driven_slice}
 use Rattle.go_run.proofs.driving.drive.Goals as goal
+
+pub answer_all-left-requires-clause-waits : goal.answer_all-left-requires-clause-waits
+answer_all-left-requires-clause-waits g c =
+    subst (λ (l : List SessionState). WaitsForCertain c.args.loads.now l) (sym c.deref_mut.ensures.value) c.requires.waits
 
 pub returns : goal.returns
 returns g c =
-    driven_of g.D.Disk.device c.args.session c.answer_all-stop.new.session c.args.store c.session-handle.result.store c.answer_all-stop.new.store.store
-    c.back.result c.answer_all-stop.result c.finish.result c.session-handle.ensures.store c.answer_all-stop.ensures.became.same c.answer_all-stop.ensures.came
-    c.back.ensures c.finish.ensures
+    let long : c.args.sessions.len ≡ length c.args.sessions.items = omega (arith, c.args.sessions.ok) in
+    driven_slice g.D.Disk.device c.args.loads.now c.args.sessions.items c.deref_mut.result.now c.answer_all-left.new.sessions c.args.sessions.len
+    c.args.store c.answer_all-left.result.store c.answer_all-left.result.stop c.finish.result c.deref_mut.ensures.value long c.requires
+    c.answer_all-left.ensures c.finish.ensures

@@ -3,7 +3,7 @@ use Rattle.std.proofs.Common.{◌≡◌, ◌<◌, List, [], ◌∷◌, length, �
 use Rattle.go_run.specs.Words.{chosen, named, has_dash}
 use Rattle.go_run.specs.Found.{kept_of}
 use Rattle.go_run.proofs.WordLemmas.{begins, begin_with_file, begin_with_pair, begin_with_choice, no_value_behind, no_part, no_words_left, Begins}
-use Rattle.go_run.proofs.FoundLemmas.{reads_part, reads_no_part, reads_none, steps_none}
+use Rattle.go_run.proofs.FoundLemmas.{put_few, reads_part, reads_no_part, reads_none, steps_none}
 use Rattle.go_run.proofs.words.take_part.Goals as goal
 
 pub returns-in_err-with_file-in-File : goal.returns-in_err-with_file-in-File
@@ -21,6 +21,7 @@ returns-in_ok-with_file-in-File c =
     let begin = begin_with_file w r (ap has_dash (sym c.as_text.ensures) ∙ c.in-File.ensures) in (
       reads_part (kept_of c.args.found) w r r (named w) begin (kept_of c.in_ok-with_file-in-File.field-0) (sym c.in_ok-with_file-in-File.ensures),
       omega arith,
+      put_few (kept_of c.args.found) (named w) (kept_of c.in_ok-with_file-in-File.field-0) (sym c.in_ok-with_file-in-File.ensures),
     )
 
 pub returns-in_err-value-in-Name : goal.returns-in_err-value-in-Name
@@ -56,6 +57,7 @@ returns-in_ok-with-in-Name c =
     let begin = begin_with_pair s w v r left (sym c.as_text.ensures ∙ c.in-Name.ensures) two in (
       reads_part (kept_of c.args.found) w r left (chosen s v) begin (kept_of c.in_ok-with-in-Name.field-0) (sym c.in_ok-with-in-Name.ensures),
       omega (arith, ap (λ (l : List (List ℕ)). length l) c.in_ok-value-in-Name.ensures.cases.0),
+      put_few (kept_of c.args.found) (chosen s v) (kept_of c.in_ok-with-in-Name.field-0) (sym c.in_ok-with-in-Name.ensures),
     )
 
 pub returns-in_err-with-in-Choice : goal.returns-in_err-with-in-Choice
@@ -77,6 +79,7 @@ returns-in_ok-with-in-Choice c =
     let begin = begin_with_choice s w v r (sym c.as_text.ensures ∙ c.in-Choice.ensures) in (
       reads_part (kept_of c.args.found) w r r (chosen s v) begin (kept_of c.in_ok-with-in-Choice.field-0) (sym c.in_ok-with-in-Choice.ensures),
       omega arith,
+      put_few (kept_of c.args.found) (chosen s v) (kept_of c.in_ok-with-in-Choice.field-0) (sym c.in_ok-with-in-Choice.ensures),
     )
 
 pub returns-in-Unknown : goal.returns-in-Unknown
