@@ -4,29 +4,17 @@
 # and time a line, each on a real file, beside the plain Rust program of baseline/store.rs with the same file and syncs in the same run.
 # The files are compared byte by byte.
 set -eu
-here=$(cd "$(dirname "$0")" && pwd)
-work=$(mktemp -d)
-trap 'rm -rf "$work"' EXIT
+source "$(dirname "$0")/program.sh" store
 
-rustc -O --edition 2024 -o "$work/plain" "$here/baseline/store.rs"
-mkdir "$work/built" && cd "$work/built"
-"$here/../graphone" drive "$here/../examples/first.gs" > /dev/null
-graphone=$here/../crates/graphone/out/graphone
-cd "$work"
-
-# Additions between vertices that a fixed sequence gives; with "ask", each followed by a question.
+# Additions, each followed by a question where the second word is 1.
 make_script() {
-    awk -v lines="$1" -v ask="$2" 'BEGIN {
-        x = 1
-        if (ask) print "add 0 0\nview 0"
-        for (i = 0; i < lines; i++) {
-            x = (x * 16807) % 2147483647; s = x % 65536
-            x = (x * 16807) % 2147483647; d = x % 65536
-            print "add " s " " d
-            if (ask) print "neigh 0 " s
-        }
-        if (!ask) print "view 0\nneigh 0 1"
-    }'
+    if [ "$2" = 1 ]; then
+        printf 'add 0 0\nview 0\n'
+        additions "$1" | awk '{ print; print "neigh 0 " $2 }'
+    else
+        additions "$1"
+        printf 'view 0\nneigh 0 1\n'
+    fi
 }
 
 # Questions over a view, and no additions.
@@ -50,21 +38,10 @@ row() {
     }'
 }
 
-# Both programs once in folders of their own: their replies and their files are the same.
-compare() {
-    local script=$1 program
-    for program in "$graphone" "$work/plain"; do
-        mkdir -p "$work/$(basename "$program").files"
-        (cd "$work/$(basename "$program").files" && "$program" drive "$script" > replies)
-    done
-    cmp "$work/graphone.files/replies" "$work/plain.files/replies"
-    cmp "$work/graphone.files/graph.log" "$work/plain.files/graph.log"
-}
-
 anew() {
     rm -rf "$work"/*.files
-    compare "$1"
-    row "$3" "$2" "$(python3 "$here/measure.py" --new-folder 5 "$graphone" drive "$1")" "$(python3 "$here/measure.py" --new-folder 5 "$work/plain" drive "$1")"
+    compare drive "$1"
+    row "$3" "$2" "$(measure_anew 5 "$graphone" drive "$1")" "$(measure_anew 5 "$plain" drive "$1")"
 }
 
 for lines in 10000 100000 1000000; do
@@ -72,9 +49,9 @@ for lines in 10000 100000 1000000; do
     anew "$work/$lines.gs" "$lines" "$lines"
 done
 make_questions 1000 > "$work/questions.gs"
-compare "$work/questions.gs"
+compare drive "$work/questions.gs"
 cd "$work/graphone.files"
-row again 1000 "$(python3 "$here/measure.py" 5 "$graphone" drive "$work/questions.gs")" "$(python3 "$here/measure.py" 5 "$work/plain" drive "$work/questions.gs")"
+row again 1000 "$(measure 5 "$graphone" drive "$work/questions.gs")" "$(measure 5 "$plain" drive "$work/questions.gs")"
 cd "$work"
 make_script 500000 1 > "$work/ask.gs"
 anew "$work/ask.gs" 1000000 asking
