@@ -2,7 +2,8 @@
 ghost use Rattle.std.specs.Prelude.{◌≡◌, ◌↔◌, ◌⊎◌, ◌+◌, ◌<◌, ◌≤◌, [], Some, None, Contains, IsSomeAnd, length, take, vec_capacity, IfOk, IsTrue, OnOk};
 ghost use Rattle.std.specs.List.{filter};
 ghost use Rattle.go_disk.specs.Disk.{overwritten, Shows};
-ghost use Rattle.go_disk.specs.MemDisk.{looked, wrote, tore, synced, blank, contents_of, stable_of, IsImageOf, syncs_of, used_by, IsListed, noted, faulted, asked};
+ghost use Rattle.go_disk.specs.MemDisk.{looked, wrote, tore, synced, blank, contents_of, stable_of};
+ghost use Rattle.go_disk.specs.MemDisk.{IsImageOf, syncs_of, used_by, IsListed, noted, faulted, asked};
 ghost use Rattle.go_disk.specs.Recording.{is_sync};
 
 use crate::call::Call;

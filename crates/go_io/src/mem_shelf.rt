@@ -1,9 +1,11 @@
 // A shelf in memory, for tests: it tells all it holds, and fails exactly where it was told to.
-ghost use Rattle.std.specs.Prelude.{◌≡◌, ◌↔◌, ℕ, ◌∷◌, ◌++◌, [], ◌<◌, ◌≤◌, List, map, length, Some, IfSome, find, position, option_copied, OnOk, OnErr, slice_get, slice_set, if◌then◌else◌};
+ghost use Rattle.std.specs.Prelude.{◌≡◌, ◌↔◌, ℕ, ◌∷◌, ◌++◌, [], ◌<◌, ◌≤◌, List, map, length};
+ghost use Rattle.std.specs.Prelude.{Some, IfSome, find, position, option_copied, OnOk, OnErr, slice_get, slice_set, if◌then◌else◌};
 ghost use Rattle.std.specs.Str.{bytes_eq};
 ghost use Rattle.go_text.specs.Causes.{Rose, raised};
 ghost use Rattle.go_io.specs.Shelf.{FetchesText};
-ghost use Rattle.go_io.specs.MemShelf.{Stock, NamedText, is_named, text_in, faults_in, shares_count, text_of, faults_of, FailsNow, answer_to, AnswersAs, faults_after, PutsText};
+ghost use Rattle.go_io.specs.MemShelf.{Stock, NamedText, is_named, text_in, faults_in, shares_count, text_of};
+ghost use Rattle.go_io.specs.MemShelf.{faults_of, FailsNow, answer_to, AnswersAs, faults_after, PutsText};
 ghost use Rattle.go_io.specs.Entries.{held_of};
 
 use crate::{Fetched, Shelf};

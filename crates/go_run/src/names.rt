@@ -1,5 +1,6 @@
 // The names of the scripts that words name.
-ghost use Rattle.std.specs.Prelude.{◌≡◌, ◌++◌, ◌∷◌, [], ◌<◌, nat_lt, if◌then◌else◌, length, map, slice_set, Some, option_copied, option_to_list, IfOk, IsTrue, ◌↔◌};
+ghost use Rattle.std.specs.Prelude.{◌≡◌, ◌++◌, ◌∷◌, [], ◌<◌, nat_lt, if◌then◌else◌, length};
+ghost use Rattle.std.specs.Prelude.{map, slice_set, Some, option_copied, option_to_list, IfOk, IsTrue, ◌↔◌};
 ghost use Rattle.std.specs.List.{flat_map};
 ghost use Rattle.go_run.specs.declared.limits.TheConstants.{SCRIPTS};
 

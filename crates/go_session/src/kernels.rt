@@ -73,7 +73,8 @@ pub fn counts_at<S: Store>(
 ) -> Result<u32, Stop>
     requires ready { IsViewAt place (S.stands store.old) }
     requires there { root < (S.stands store.old).terms.vertices }
-    ensures found { IfOk result (λ unreached. AreCounts (graph_at place (S.stands store.old)).log (graph_at place (S.stands store.old)).size root out.new.items unreached) }
+    ensures found { IfOk result (λ unreached.
+        AreCounts (graph_at place (S.stands store.old)).log (graph_at place (S.stands store.old)).size root out.new.items unreached) }
     ensures left { Leaves result (S.stands store.old) (S.stands store.new) }
     ensures sound { IsSound (S.stands store.new) }
     ensures became { S.became store.old store.new }

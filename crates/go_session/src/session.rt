@@ -147,7 +147,8 @@ impl Session {
     ///
     /// After want of memory nothing is claimed of `out`.
     pub fn write(&self, durable: Option<u64>, out: &mut Vec<u8>) -> Result<(), AllocError>
-        ensures { OnOk result (out.new.items ≡ out.old.items ++ text_of_session self.now.number (shown durable self.now.first self.now.commands self.now.replies)) }
+        ensures { OnOk result (out.new.items
+            ≡ out.old.items ++ text_of_session self.now.number (shown durable self.now.first self.now.commands self.now.replies)) }
     {
         let count = match durable {
             None => self.replies.len(),

@@ -1,5 +1,6 @@
 //! The versions of one number, by front.
-ghost use Rattle.std.specs.Prelude.{◌≡◌, ℕ, ◌<◌, ◌≤◌, ◌+◌, ◌-◌, ◌∷◌, ◌++◌, [], All, IsOk, OnOk, count_by, drop, length, slice_index_or, if◌then◌else◌, nat_le, vec_capacity, vec_len, IfOk};
+ghost use Rattle.std.specs.Prelude.{◌≡◌, ℕ, ◌<◌, ◌≤◌, ◌+◌, ◌-◌, ◌∷◌, ◌++◌, [], All, IsOk};
+ghost use Rattle.std.specs.Prelude.{OnOk, count_by, drop, length, slice_index_or, if◌then◌else◌, nat_le, vec_capacity, vec_len, IfOk};
 ghost use Rattle.std.specs.List.Sorted.{IsPartitionPoint};
 ghost use Rattle.go_versions.specs.Version.{Version};
 ghost use Rattle.go_versions.specs.History.{reaches, count_at, IsRising};

@@ -25,7 +25,8 @@ returns-clause-starts g c =
     (sym (c.keep.ensures.kept)) (started g.D.Disk.device old c.args.number c.args.place c.head-cursor.result c.requires.session sound c.head-cursor.ensures.exact)
 
 pub returns-clause-sound : goal.returns-clause-sound
-returns-clause-sound g c = still_sound g.D.Disk.device c.args.self.now c.keep.new.self c.args.number c.keep.ensures.stays c.requires.session
+returns-clause-sound g c =
+    still_sound g.D.Disk.device c.args.self.now c.keep.new.self c.args.number c.keep.ensures.stays c.requires.session
 
 pub returns-clause-became : goal.returns-clause-became
 returns-clause-became g c =

@@ -15,7 +15,8 @@ returns-then-front-seen-clause-waits g c =
     (omega (arith, c.if-front-seen.true, c.look-seen.ensures.head)))
 
 pub returns-then-front-seen-clause-sound : goal.returns-then-front-seen-clause-sound
-returns-then-front-seen-clause-sound g c = still_sound g.D.Disk.device c.args.self.now c.look-seen.new.self c.args.number c.look-seen.ensures.stays c.requires.session
+returns-then-front-seen-clause-sound g c =
+    still_sound g.D.Disk.device c.args.self.now c.look-seen.new.self c.args.number c.look-seen.ensures.stays c.requires.session
 
 pub returns-else-front-seen-clause-waits : goal.returns-else-front-seen-clause-waits
 returns-else-front-seen-clause-waits g c =
@@ -26,4 +27,5 @@ returns-else-front-seen-clause-waits g c =
     (c.check.ensures.sound c.args.number c.requires.session) c.look-seen.ensures.head (omega (arith, c.if-front-seen.false)))
 
 pub returns-else-front-seen-clause-sound : goal.returns-else-front-seen-clause-sound
-returns-else-front-seen-clause-sound g c = still_sound g.D.Disk.device c.args.self.now c.look-seen.new.self c.args.number c.look-seen.ensures.stays c.requires.session
+returns-else-front-seen-clause-sound g c =
+    still_sound g.D.Disk.device c.args.self.now c.look-seen.new.self c.args.number c.look-seen.ensures.stays c.requires.session
