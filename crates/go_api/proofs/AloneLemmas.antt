@@ -35,7 +35,7 @@ take-positions first zero (suc k) within = absurd (omega arith)
 take-positions first (suc count) (suc k) within = ap (λ l. first ∷ l) (take-positions (first + 1) count k (omega arith))
 
 -- how often a position stands in a list: whether it is the first one, and among the others
-count_cons : (p x : ℕ) (own : List ℕ) → count_by (λ q. q == p) (x ∷ own) ≡ (if x == p then 1 else 0) + count_by (λ q. q == p) own
+pub count_cons : (p x : ℕ) (own : List ℕ) → count_by (λ q. q == p) (x ∷ own) ≡ (if x == p then 1 else 0) + count_by (λ q. q == p) own
 count_cons p x own = sum_by-cons (λ (q : ℕ). if q == p then 1 else 0) x own
 
 -- a position in front of the first isn't there
@@ -104,7 +104,7 @@ Laid_alone old puts = record {
 }
 
 -- a rising list has no position in front of its first one
-rises_before : (own : List ℕ) (first p : ℕ) → Rises first own → p < first → count_by (λ q. q == p) own ≡ 0
+pub rises_before : (own : List ℕ) (first p : ℕ) → Rises first own → p < first → count_by (λ q. q == p) own ≡ 0
 rises_before [] first p rises before = refl
 rises_before (x ∷ own) first p rises before =
     let step = count_cons p x own in
@@ -142,7 +142,7 @@ once_alone p own once =
     omega (arith, step, once)
 
 -- an element, and what lies behind it
-drop_at : (log : List Edge) (k : ℕ) (e : Edge) → slice_get log k ≡ Some e → drop k log ≡ e ∷ drop (k + 1) log
+pub drop_at : (log : List Edge) (k : ℕ) (e : Edge) → slice_get log k ≡ Some e → drop k log ≡ e ∷ drop (k + 1) log
 drop_at log k e here =
     let within = slice_get_within log k e here in
     rw (add-one, drop-cons log k e) (ap (λ (x : Edge). x ∷ drop (suc k) log) (get_or_from_slice_get log k e e here))
