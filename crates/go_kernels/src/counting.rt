@@ -4,7 +4,7 @@ ghost use Rattle.go_model.specs.Graph.{Keeps};
 ghost use Rattle.go_model.specs.Counts.{AreCounts, AreCountsOf, IsFull};
 ghost use Rattle.go_kernels.specs.Depth.{IsDepth, AreCounted};
 
-use crate::search::levels;
+use crate::search::find_levels;
 use crate::work::Work;
 use go_model::Graph;
 use std::alloc::AllocError;
@@ -27,9 +27,14 @@ pub fn level_counts<G: Graph>(
 {
     // There are fewer than 2^32 vertices, and the entries lie between them.
     let _vertices = g.vertices();
-    let mut found = Vec::new(*counts.allocator());
-    levels(g, r, work, &mut found)?;
-    count(&found, counts)
+    let Work {
+        front,
+        next,
+        list,
+        levels,
+    } = work;
+    find_levels(g, r, levels, front, next, list)?;
+    count(levels, counts)
 }
 
 // Counts the vertices at each level, and answers how many have none.

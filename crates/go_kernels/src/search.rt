@@ -26,11 +26,28 @@ pub fn levels<G: Graph>(
     ensures exact { OnOk result (AreLevels (G.shows g.old).log (G.shows g.old).size r out.new.items) }
     ensures keeps { Keeps G.shows G.ready G.became g.old g.new }
 {
+    find_levels(g, r, out, &mut work.front, &mut work.next, &mut work.list)
+}
+
+// The same with the parts of the memory that it takes.
+pub(crate) fn find_levels<G: Graph>(
+    g: &mut G,
+    r: u32,
+    out: &mut Vec<Option<u32>>,
+    front: &mut Vec<u32>,
+    next: &mut Vec<u32>,
+    list: &mut Vec<u32>,
+) -> Result<(), AllocError>
+    requires ready { G.ready g.old }
+    requires root { r < (G.shows g.old).size }
+    ensures exact { OnOk result (AreLevels (G.shows g.old).log (G.shows g.old).size r out.new.items) }
+    ensures keeps { Keeps G.shows G.ready G.became g.old g.new }
+{
     clear_levels(g.vertices(), out)?;
     out[r as usize] = Some(0);
-    work.front.clear();
-    work.front.push(r)?;
-    search(g, r, out, &mut work.front, &mut work.next, &mut work.list)
+    front.clear();
+    front.push(r)?;
+    search(g, r, out, front, next, list)
 }
 
 // Goes on from the root, front by front.

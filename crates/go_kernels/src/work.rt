@@ -11,6 +11,8 @@ pub struct Work {
     pub(crate) next: Vec<u32>,
     /// The neighbours of a vertex.
     pub(crate) list: Vec<u32>,
+    /// The level of each vertex, where only their numbers are asked for.
+    pub(crate) levels: Vec<Option<u32>>,
 }
 
 impl Work {
@@ -20,6 +22,7 @@ impl Work {
             front: Vec::new(alloc),
             next: Vec::new(alloc),
             list: Vec::new(alloc),
+            levels: Vec::new(alloc),
         }
     }
 }

@@ -8,7 +8,7 @@ use Rattle.go_kernels.proofs.counting.level_counts.Goals as goal
 
 pub count-requires-clause-few : goal.count-requires-clause-few
 count-requires-clause-few g c =
-    let long = c.in_ok-levels.ensures.exact.all in
+    let long = c.in_ok-find_levels.ensures.exact.all in
     let size = c.vertices-vertices.ensures.size in
     let fits = c.vertices-vertices.type_inv in
     let here = ap (λ (l : List (Option ℕ)). length l) c.deref.ensures.value in
@@ -18,4 +18,4 @@ pub count-requires-clause-full : goal.count-requires-clause-full
 count-requires-clause-full g c =
     let shown = g.G.Graph.shows c.args.g.now in
     subst (λ (l : List (Option ℕ)). IsFull l) (sym c.deref.ensures.value)
-    (AreLevels-full shown.log shown.size c.args.r c.levels.new.out.items c.vertices-vertices.ensures.drawn.ids c.requires.root c.in_ok-levels.ensures.exact)
+    (AreLevels-full shown.log shown.size c.args.r c.find_levels.new.out.items c.vertices-vertices.ensures.drawn.ids c.requires.root c.in_ok-find_levels.ensures.exact)
