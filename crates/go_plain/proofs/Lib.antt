@@ -11,6 +11,7 @@ pub mod KeepingLemmas
 pub mod ArrangedLemmas
 pub mod StoreLemmas
 pub mod StandingLemmas
+pub mod AnsweredLemmas
 pub mod ShortLemmas
 pub mod NewLemmas
 pub mod LeastLemmas

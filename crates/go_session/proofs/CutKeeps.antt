@@ -18,7 +18,8 @@ use Rattle.go_session.specs.Walk.{World, Walk, Row, row_of, start, after, Effect
 use Rattle.go_session.specs.Walk.Row.{entry, offered, loaded, viewed, value, streamed, updated, reached, synced, word}
 use Rattle.go_session.specs.Cut.{rest_of, cut_from}
 use Rattle.go_session.proofs.RowLemmas.{IsKind, ShowsEntry, row_kind, value_quiet, offered_entry, frees, start_inside}
-use Rattle.go_session.proofs.CutWalks.{IsCut, asked_commands, cut_after, get_taken, get_dropped, last_get, rises_from, rises_order}
+use Rattle.go_session.proofs.CutWalks.{IsCut, asked_commands, cut_after}
+use Rattle.go_session.proofs.CutPositions.{rises_from, rises_order, get_taken, get_dropped, last_get}
 
 -- each own position that wasn't used is at or above what was seen, and not below what no later one is
 pub record IsBehind (world : World) (walk : Walk) : Type 0 where

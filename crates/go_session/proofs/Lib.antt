@@ -13,6 +13,7 @@ pub mod StepLemmas
 pub mod TurnLemmas
 pub mod CutLemmas
 pub mod CutWalks
+pub mod CutPositions
 pub mod CutKeeps
 pub mod DriveLemmas
 pub mod LawLemmas

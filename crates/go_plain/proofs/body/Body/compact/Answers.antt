@@ -5,7 +5,8 @@ use Rattle.go_api.proofs.StandingLemmas.{sees_on}
 use Rattle.go_plain.specs.GoingOn.{store_onwards}
 use Rattle.go_plain.specs.Plain.{PlainState, standing_of}
 use Rattle.go_plain.proofs.GoingLemmas.{by_moves}
-use Rattle.go_plain.proofs.StandingLemmas.{moves_see, moves_stop, cuts_move, still_session, still_sound}
+use Rattle.go_plain.proofs.AnsweredLemmas.{cuts_move}
+use Rattle.go_plain.proofs.StandingLemmas.{moves_see, moves_stop, still_session, still_sound}
 use Rattle.go_plain.proofs.body.Body.compact.Given.{Over}
 use Rattle.go_plain.proofs.body.Body.compact.Goals.{After-compact_shards}
 use Rattle.go_plain.proofs.body.Body.compact.Goals as goal

@@ -18,7 +18,8 @@ use Rattle.go_plain.proofs.ArrangedLemmas.{storable, shard_part}
 use Rattle.go_plain.proofs.PlacesLemmas.{view_there, view_read, shown_within}
 use Rattle.go_plain.proofs.SeatsLemmas.{view_among, is_seated}
 use Rattle.go_plain.proofs.ShortLemmas.{neighbours_short}
-use Rattle.go_plain.proofs.StandingLemmas.{listed, store_sound}
+use Rattle.go_plain.proofs.AnsweredLemmas.{listed}
+use Rattle.go_plain.proofs.StandingLemmas.{store_sound}
 use Rattle.go_plain.proofs.body.Body.neighbours.Given.{Over}
 use Rattle.go_plain.proofs.body.Body.neighbours.Goals.{In-View, After-list_neighbours}
 use Rattle.go_plain.proofs.body.Body.neighbours.Goals as goal

@@ -4,7 +4,8 @@ use Rattle.go_api.specs.Calls.{IsPut, IsBusy}
 use Rattle.go_api.specs.Standing.{IsSound}
 use Rattle.go_plain.specs.Plain.{PlainState, GoesOnBy, HasSession, standing_of}
 use Rattle.go_plain.proofs.GoingLemmas.{by_push}
-use Rattle.go_plain.proofs.StandingLemmas.{was_put, busy, sees_within, still_sound}
+use Rattle.go_plain.proofs.AnsweredLemmas.{busy}
+use Rattle.go_plain.proofs.StandingLemmas.{was_put, sees_within, still_sound}
 use Rattle.go_plain.proofs.body.Body.offer.Goals as goal
 
 pub returns-then-is_full-clause-offers : goal.returns-then-is_full-clause-offers

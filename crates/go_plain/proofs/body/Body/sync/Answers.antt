@@ -5,7 +5,8 @@ use Rattle.go_plain.specs.GoingOn.{store_onwards}
 use Rattle.go_plain.specs.Plain.{PlainState, GoesOnBy, standing_of}
 use Rattle.go_plain.specs.Seats.{seat_at}
 use Rattle.go_plain.proofs.GoingLemmas.{by_moves, by_seat}
-use Rattle.go_plain.proofs.StandingLemmas.{synced, moves_stop, still_session, still_sound}
+use Rattle.go_plain.proofs.AnsweredLemmas.{synced}
+use Rattle.go_plain.proofs.StandingLemmas.{moves_stop, still_session, still_sound}
 use Rattle.go_plain.proofs.body.Body.sync.Goals as goal
 
 pub returns-in-Err-clause-syncs : goal.returns-in-Err-clause-syncs

@@ -2,7 +2,8 @@
 use Rattle.std.proofs.Common.{length, sym, subst, ◌∙◌, arith}
 use Rattle.go_api.specs.Calls.{HasReached, HasNotReached}
 use Rattle.go_plain.specs.Plain.{PlainState, standing_of}
-use Rattle.go_plain.proofs.StandingLemmas.{reached, not_reached, still_sound}
+use Rattle.go_plain.proofs.AnsweredLemmas.{reached, not_reached}
+use Rattle.go_plain.proofs.StandingLemmas.{still_sound}
 use Rattle.go_plain.proofs.body.Body.until.Goals as goal
 
 pub returns-then-front-seen-clause-waits : goal.returns-then-front-seen-clause-waits

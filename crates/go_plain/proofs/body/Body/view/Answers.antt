@@ -7,7 +7,8 @@ use Rattle.go_plain.specs.Seats.{seat_at}
 use Rattle.go_plain.specs.declared.seat.Seat.{Seat}
 use Rattle.go_plain.proofs.GoingLemmas.{by_seat}
 use Rattle.go_plain.proofs.PlacesLemmas.{place_there, view_whole}
-use Rattle.go_plain.proofs.StandingLemmas.{viewed, still_sound}
+use Rattle.go_plain.proofs.AnsweredLemmas.{viewed}
+use Rattle.go_plain.proofs.StandingLemmas.{still_sound}
 use Rattle.go_plain.proofs.body.Body.view.Goals as goal
 
 pub keep-requires-clause-place : goal.keep-requires-clause-place
