@@ -22,7 +22,7 @@ use Rattle.go_session.specs.Session.{SessionState, IsHalted, asked_left, put_in,
 use Rattle.go_session.proofs.DriveLemmas.{IsOver, HasSeen, halted_over, over_cut, over_keeps, over_puts, all_puts}
 use Rattle.go_run.specs.Driving.{CanAllTurn, AreHalted, IsSharedBy, GoOnOver, HaveEnded, HaveStopped, Comes, CanDrive, terms_of, IsTold, HasDriven}
 use Rattle.go_run.specs.Turns.{HasDone}
-use Rattle.go_run.proofs.TurnLemmas.{can_halt, all_there, aims_long}
+use Rattle.go_run.proofs.TurnParts.{can_halt, all_there, aims_long}
 
 -- first entries of a log are its first ones
 take_own : (k : ℕ) (log : List Edge) → take (length (take k log)) log ≡ take k log

@@ -14,9 +14,11 @@ use Rattle.go_loader.specs.Generated.{entry, generated}
 use Rattle.go_script.specs.declared.command.Command.{Command}
 use Rattle.go_script.specs.declared.step.Step.{Step}
 use Rattle.go_script.specs.declared.fault.ScriptFault.{ScriptFault}
+use Rattle.go_script.specs.declared.fault.ScriptFault.TheVariants.{Line}
 use Rattle.go_script.specs.Commands.{commands_of}
 use Rattle.go_script.specs.Grammar.{script_of, command_after}
 use Rattle.go_text.specs.Word.{words}
+use Rattle.go_text.specs.declared.faults.FaultKind.{FaultKind}
 use Rattle.std.specs.Str.Lines.{lines}
 use Rattle.go_script.specs.declared.command.Command.TheVariants as commands
 use Rattle.go_run.specs.Input.{generated_name, generating_commands}
@@ -180,6 +182,11 @@ generating_is zero steps some is = absurd (omega (arith, some))
 generating_is (suc v) steps some is =
     let same : numbered 1 generating_commands ≡ steps = let reads = generating_reads v in cc in
     ap commands_of (sym same)
+
+-- no line of its text is faulty
+pub generating_right : (v n : ℕ) (kind : FaultKind) → 1 ≤ v → script_of v generating_text ≡ Err (Line n kind) → ⊥
+generating_right zero n kind some faulty = omega (arith, some)
+generating_right (suc v) n kind some faulty = let reads = generating_reads v in cc
 
 -- the work is read so, from any shelf
 pub generating_work : (v edges seed : ℕ) (shelf : Option Texts) (loads : List (List Edge)) (sessions : List SessionState) → 1 ≤ v → edges ≤ EDGES →

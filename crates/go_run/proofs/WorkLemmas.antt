@@ -27,7 +27,8 @@ use Rattle.go_run.specs.Judged.{loads_of, loads_of_all, IsRight, IsWrong, sessio
 use Rattle.go_run.specs.declared.status.Status.{Status}
 use Rattle.go_run.specs.declared.status.Status.TheVariants.{Done, Words, Script, NoFile, TooMuch, ReadFault}
 use Rattle.go_run.specs.declared.status.Status.TheVariants.{NotALog, OtherVertices, DiskFault, WriteFault, Memory}
-use Rattle.go_run.proofs.ListLemmas.{All-cons, names_of}
+use Rattle.go_run.proofs.ListLemmas.{All-cons}
+use Rattle.go_run.proofs.LoadLineLemmas.{names_of}
 use Rattle.go_run.proofs.TaskLemmas.{sessions_are, sessions_new, sessions_count, sessions_counted, All-first}
 use Rattle.go_run.proofs.TaskLemmas.{All-rest, All-taken, All-dropped, length-taken, length-dropped}
 

@@ -1,6 +1,6 @@
 // Whole runs of all commands over texts in memory, at rows that were worked out by hand.
 
-use crate::fixture::run_files;
+use crate::fixture::{Row, assert_printed, run_files};
 use std::test::Fail;
 
 const ONE: &[&str] = &[
@@ -64,13 +64,6 @@ const TWICE: &[&str] = &[
 const E_BIN: [u8; 24] =
     *b"GRONEBIN\x02\x00\x00\x80\x00\x00\x00\x00\x02\x00\x00\x80\x00\x00\x00\x80";
 
-// The words of a run, the texts that it finds, and what it prints.
-type Row = (
-    &'static [&'static str],
-    &'static [(&'static str, &'static [u8])],
-    &'static [u8],
-);
-
 #[test]
 fn several_sessions_take_turns(rt: HostRuntime) -> Result<(), Fail> {
     let rows: [Row; 6] = [
@@ -117,13 +110,7 @@ fn several_sessions_take_turns(rt: HostRuntime) -> Result<(), Fail> {
             b"session 1\nsession 2\nadd 0\n",
         ),
     ];
-    for (words, texts, want) in rows {
-        let ended = run_files(&rt, rt.alloc(), words, texts)?;
-        assert_eq!(rt; ended.line.as_slice(), b"".as_slice());
-        assert_eq!(rt; ended.number, 0);
-        assert_eq!(rt; ended.sink.bytes(), want);
-    }
-    Ok(())
+    assert_printed(&rt, rt.alloc(), &rows)
 }
 
 #[test]
@@ -183,13 +170,7 @@ fn streams_views_and_questions_are_answered(rt: HostRuntime) -> Result<(), Fail>
             b"session 1\nadd 0\nadd 1\nadd 2\ndel 3\nview 0 at 4\nneigh 1: 2 3\ndegree 1: 2\nhop 1: 2 3\nrank: 1=2 0=0 2=0 3=0 4=0 5=0 6=0 7=0\n",
         ),
     ];
-    for (words, texts, want) in rows {
-        let ended = run_files(&rt, rt.alloc(), words, texts)?;
-        assert_eq!(rt; ended.line.as_slice(), b"".as_slice());
-        assert_eq!(rt; ended.number, 0);
-        assert_eq!(rt; ended.sink.bytes(), want);
-    }
-    Ok(())
+    assert_printed(&rt, rt.alloc(), &rows)
 }
 
 #[test]
@@ -239,13 +220,7 @@ fn edge_files_are_loaded(rt: HostRuntime) -> Result<(), Fail> {
             b"session 1\nload two: 2 edges, last 1\nuntil 4\nview 0 at 4\ndegree 1: 4\nsession 2\nload two: 2 edges, last 3\nsync 4\n",
         ),
     ];
-    for (words, texts, want) in rows {
-        let ended = run_files(&rt, rt.alloc(), words, texts)?;
-        assert_eq!(rt; ended.line.as_slice(), b"".as_slice());
-        assert_eq!(rt; ended.number, 0);
-        assert_eq!(rt; ended.sink.bytes(), want);
-    }
-    Ok(())
+    assert_printed(&rt, rt.alloc(), &rows)
 }
 
 #[test]

@@ -7,7 +7,7 @@ ghost use Rattle.go_run.specs.declared.limits.TheConstants.{EDGES};
 
 use crate::status::Status;
 use go_loader::generate;
-use go_script::parse;
+use go_script::{ScriptFault, parse};
 use go_session::Session;
 use go_word::Edges;
 use std::alloc::Global;
@@ -30,8 +30,10 @@ pub fn generate_script(
         (λ sessions. (shelf : Option Texts) → ReadsWork vertices shelf (generating edges seed) loads.new.items (Ok sessions.items))
         (λ status. status ≡ Status.Memory) }
 {
-    let Ok(script) = parse(alloc, SCRIPT, vertices) else {
-        return Err(Status::Memory);
+    let script = match parse(alloc, SCRIPT, vertices) {
+        Ok(script) => script,
+        Err(ScriptFault::Memory) => return Err(Status::Memory),
+        Err(ScriptFault::Line { .. }) => unreachable!(),
     };
     let mut entries = Vec::new(alloc);
     let Ok(()) = generate(edges, seed, vertices, &mut entries) else {

@@ -3,7 +3,7 @@ use Rattle.std.proofs.Common.{subst}
 use Rattle.go_run.specs.Driving.{Rounds}
 use Rattle.go_run.specs.declared.turns.Round.{Round}
 use Rattle.go_run.specs.declared.turns.Round.TheVariants.{Goes}
-use Rattle.go_run.proofs.TurnLemmas.{waits_on, go_further}
+use Rattle.go_run.proofs.TurnParts.{waits_on, go_further}
 use Rattle.go_run.proofs.driving.answer_all.Goals as goal
 
 pub loop-store-preserved : goal.loop-store-preserved

@@ -8,7 +8,7 @@ use Rattle.go_word.specs.declared.edge.Edge.{Edge}
 use Rattle.go_loader.specs.Generated.{generated}
 use Rattle.go_session.specs.Session.{unanswered}
 use Rattle.go_run.specs.Input.{generating_commands}
-use Rattle.go_run.proofs.GeneratingLemmas.{generating_is, generating_work}
+use Rattle.go_run.proofs.GeneratingLemmas.{generating_is, generating_right, generating_work}
 use Rattle.go_run.proofs.generating.generate_script.Goals as goal
 
 pub new-requires : goal.new-requires
@@ -26,3 +26,7 @@ returns c =
     rw (c.in-Ok-push-2.ensures.items, c.new-sessions.ensures.items, c.in-Ok-new.ensures.unanswered, is) refl in
     λ shelf. generating_work v c.args.edges c.args.seed shelf c.push.new.self.items c.push-2.new.self.items c.requires.some_vertex c.requires.few script within
     loads sessions
+
+pub unreachable-requires : goal.unreachable-requires
+unreachable-requires c = generating_right c.args.vertices c.in-Err-Line.field-0-0 c.in-Err-Line.field-0-1 c.requires.some_vertex
+    (rw c.in-Err-Line.field-0-is at c.in-Err-Line.ensures.exact)

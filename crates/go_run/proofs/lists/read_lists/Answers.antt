@@ -4,7 +4,8 @@ use Rattle.go_word.specs.declared.edge.Edge.{Edge}
 use Rattle.go_script.specs.Commands.{commands_of}
 use Rattle.go_run.specs.Input.{Texts, names_loaded}
 use Rattle.go_run.specs.Lists.{numbers_in, HoldsLists, HasLists, RefusesLists}
-use Rattle.go_run.proofs.ListLemmas.{names_of, names_next, lists_start, lists_all, lists_line, lists_other, lists_line_refused, not_load, take-all}
+use Rattle.go_run.proofs.ListLemmas.{lists_start, lists_all, take-all}
+use Rattle.go_run.proofs.LoadLineLemmas.{names_of, names_next, lists_line, lists_other, lists_line_refused, not_load}
 use Rattle.go_run.proofs.lists.read_lists.Goals.{in-Load+in_ok-number+in-Ok, in_default}
 use Rattle.go_run.proofs.lists.read_lists.Goals as goal
 

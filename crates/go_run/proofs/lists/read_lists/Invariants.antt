@@ -3,7 +3,7 @@ use Rattle.std.proofs.Common.{◌≡◌, ◌≤◌, ◌++◌, ℕ, List, take}
 use Rattle.go_script.specs.Commands.{commands_of}
 use Rattle.go_run.specs.Input.{names_loaded}
 use Rattle.go_run.specs.Lists.{numbers_in, HoldsLists}
-use Rattle.go_run.proofs.ListLemmas.{names_of}
+use Rattle.go_run.proofs.LoadLineLemmas.{names_of}
 use Rattle.go_run.proofs.lists.read_lists.Given as goal
 
 abbrev pub invariant-loop-i : goal.invariant-loop-i

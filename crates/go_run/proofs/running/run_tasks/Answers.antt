@@ -7,8 +7,9 @@ use Rattle.go_session.specs.Session.{SessionState}
 use Rattle.go_run.specs.Driving.{quota_in, tasks_in}
 use Rattle.go_run.specs.Input.{count_of}
 use Rattle.go_run.specs.Run.{run_over}
-use Rattle.go_run.proofs.RunningLemmas.{fits, refused_ran, drive_can, drive_ran, unmade_ran, refused_blunders, refused_rose}
-use Rattle.go_run.proofs.RunningLemmas.{driven_counts, concluded_fault, few_quotas, AreCounted, counted, counted_puts, quotas_fit, made_same}
+use Rattle.go_run.proofs.RunningLemmas.{fits, refused_ran, drive_can, drive_ran, unmade_ran}
+use Rattle.go_run.proofs.RunningCounts.{refused_blunders, refused_rose}
+use Rattle.go_run.proofs.RunningCounts.{driven_counts, concluded_fault, few_quotas, AreCounted, counted, counted_puts, quotas_fit, made_same}
 use Rattle.go_run.proofs.running.run_tasks.Goals as goal
 
 pub quotas_of-requires-clause-few : goal.quotas_of-requires-clause-few

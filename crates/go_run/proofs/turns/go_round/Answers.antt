@@ -1,7 +1,8 @@
 -- What a round comes to.
 use Rattle.std.proofs.Common.{◌+◌, ◌<◌, Bool, get_or, set, length, arith, subst, sym}
 use Rattle.std.proofs.lemmas.Option.{slice_get-get_or}
-use Rattle.go_run.proofs.TurnLemmas.{round_did, round_rested, round_stopped, round_goes, round_last, rests}
+use Rattle.go_run.proofs.TurnLemmas.{round_did, round_rested, round_stopped, round_goes, round_last}
+use Rattle.go_run.proofs.TurnParts.{rests}
 use Rattle.go_run.specs.Driving.{InRound, Rounds, at_turn}
 use Rattle.go_run.specs.declared.turns.Round.{Round}
 use Rattle.go_run.proofs.turns.go_round.Goals as goal

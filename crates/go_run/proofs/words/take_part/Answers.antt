@@ -3,7 +3,8 @@ use Rattle.std.proofs.Common.{◌≡◌, ◌<◌, List, [], ◌∷◌, length, �
 use Rattle.go_run.specs.Words.{chosen, named, has_dash}
 use Rattle.go_run.specs.Found.{kept_of}
 use Rattle.go_run.proofs.WordLemmas.{begins, begin_with_file, begin_with_pair, begin_with_choice, no_value_behind, no_part, no_words_left, Begins}
-use Rattle.go_run.proofs.FoundLemmas.{put_few, reads_part, reads_no_part, reads_none, steps_none}
+use Rattle.go_run.proofs.FoundLemmas.{reads_part, reads_no_part, reads_none, steps_none}
+use Rattle.go_run.proofs.PutLemmas.{put_few}
 use Rattle.go_run.proofs.words.take_part.Goals as goal
 
 pub returns-in_err-with_file-in-File : goal.returns-in_err-with_file-in-File
