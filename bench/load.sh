@@ -1,12 +1,13 @@
 #!/usr/bin/env bash
 # A script that loads two text edge files of 5,000,000 lines (one of 10,000,000 is over the limit of 67,108,864 bytes) and ends in a view
-# and a list of neighbours; the same of the binary files of the same edges; and `gen` over 1,000,000 edges: time, time an entry and peak
-# memory, each over a new log file, beside the plain Rust program of baseline/load.rs with the same file and syncs in the same run.
-# Replies and log files are compared byte by byte.
+# and a list of neighbours; the same of the binary files of the same edges; 10,000 edge files of one edge each, each of which is loaded
+# twice; and `gen` over 1,000,000 edges: time, time an entry and peak memory, each over a new log file, beside the plain Rust program of
+# baseline/load.rs with the same file and syncs in the same run. Replies and log files are compared byte by byte.
 set -eu
 source "$(dirname "$0")/program.sh" load
 lines=${1:-5000000}
 edges=${2:-1000000}
+names=${3:-10000}
 
 printf '%-10s %10s %9s %9s %9s %11s %7s %7s\n' job entries seconds ns/entry plain\ s peak\ KiB time× memory×
 row() {
@@ -30,4 +31,8 @@ for form in txt bin; do
 done
 row text $((2 * lines)) drive "$work/txt.gs"
 row binary $((2 * lines)) drive "$work/bin.gs"
+mkdir names
+for name in $(seq "$names"); do echo "$name $((name * 7 % 65536))" > "names/$name"; done
+{ for _ in 1 2; do seq "$names" | sed 's#^#load ../names/#'; done; printf 'view 0\nneigh 0 1\n'; } > names.gs
+row names $((2 * names)) drive "$work/names.gs"
 row gen "$edges" gen --edges "$edges" --seed 7
