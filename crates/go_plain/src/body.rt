@@ -7,6 +7,7 @@ ghost use Rattle.go_plain.specs.Plain.{MaySit, pushed};
 ghost use Rattle.go_plain.specs.Seats.{seat_at, seats_with};
 
 use crate::ring::Ring;
+use crate::scratch::Scratch;
 use crate::seat::{Seat, give_seat, spend};
 use crate::views::fronts_of;
 use go_api::Stop;
@@ -16,6 +17,7 @@ use go_shard::{Shard, catch_up};
 use go_word::Edge;
 use std::alloc::{AllocError, Global};
 use std::marker::Model;
+use std::mem;
 use std::snapshot::Snapshot;
 
 /// A log on a disk, with its newest entries in a ring and its older ones in shards, and what is kept for each session.
@@ -37,6 +39,8 @@ pub struct Body<D: Disk> {
     pub(crate) journal: Option<Journal<D>>,
     // by session, the first one at the front
     pub(crate) seats: Vec<Seat>,
+    // kept from one question to the next
+    pub(crate) scratch: Scratch,
 }
 
 impl<D: Disk> Model for Body<D> {
@@ -97,6 +101,20 @@ impl<D: Disk> Body<D> {
         ensures stays { StaysStore D.device self.old self.new }
     {
         give_seat(&mut self.seats, number, seat);
+    }
+
+    /// Lends what questions work in.
+    pub fn lend(&mut self) -> Scratch
+        ensures { self.new ≡ self.old }
+    {
+        mem::replace(&mut self.scratch, Scratch::new(self.alloc))
+    }
+
+    /// Takes back what was lent.
+    pub fn take_back(&mut self, scratch: Scratch)
+        ensures { self.new ≡ self.old }
+    {
+        self.scratch = scratch;
     }
 
     /// Sets a mark behind all entries in the ring.

@@ -19,6 +19,7 @@ mod making;
 mod putting;
 mod reading;
 mod ring;
+mod scratch;
 mod seat;
 mod session;
 mod skip;

@@ -7,6 +7,7 @@ ghost use Rattle.go_shard.specs.Parts.{HaveParts};
 
 use crate::body::Body;
 use crate::ring::Ring;
+use crate::scratch::Scratch;
 use crate::seat::new_seats;
 use crate::store::PlainStore;
 use go_api::Setup;
@@ -66,6 +67,7 @@ impl<D: Disk> PlainStore<D> {
             ring,
             journal: Some(Journal::Sound { log }),
             seats,
+            scratch: Scratch::new(alloc),
         };
         match Box::new(alloc, body) {
             Ok(body) => Ok(PlainStore { body }),

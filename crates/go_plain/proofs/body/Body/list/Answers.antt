@@ -20,9 +20,9 @@ use Rattle.go_plain.proofs.SeatsLemmas.{view_among, is_seated}
 use Rattle.go_plain.proofs.ShortLemmas.{neighbours_short}
 use Rattle.go_plain.proofs.AnsweredLemmas.{listed}
 use Rattle.go_plain.proofs.StandingLemmas.{store_sound}
-use Rattle.go_plain.proofs.body.Body.neighbours.Given.{Over}
-use Rattle.go_plain.proofs.body.Body.neighbours.Goals.{In-View, After-list_neighbours}
-use Rattle.go_plain.proofs.body.Body.neighbours.Goals as goal
+use Rattle.go_plain.proofs.body.Body.list.Given.{Over}
+use Rattle.go_plain.proofs.body.Body.list.Goals.{In-View, After-list_neighbours}
+use Rattle.go_plain.proofs.body.Body.list.Goals as goal
 
 -- the view that the place holds
 held : (g : Over) (c : In-View g) → get_or (seat_at c.args.self.now.seats c.args.number).places c.args.place Free ≡ View c.in-View.front
