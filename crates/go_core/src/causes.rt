@@ -13,7 +13,8 @@ use crate::words::FLAG;
 pub(crate) fn load_flag(words: &[u64], parties: &mut Vec<Party>, i: usize) -> Out
     requires words { 4 ≤ length words.now }
     requires live { IsLiveAt parties.old.items i }
-    ensures { (slots first : ℕ) (parts : Parts) → Row (machine_of slots first words.now parties.old.items parts) i LoadFlag result (machine_of slots first words.now parties.new.items parts) }
+    ensures { (slots first : ℕ) (parts : Parts) →
+        Row (machine_of slots first words.now parties.old.items parts) i LoadFlag result (machine_of slots first words.now parties.new.items parts) }
 {
     let flag = words[FLAG];
     let party = &mut parties[i];
@@ -25,7 +26,9 @@ pub(crate) fn load_flag(words: &[u64], parties: &mut Vec<Party>, i: usize) -> Ou
 pub(crate) fn store_flag(words: &mut Vec<u64>, parties: &mut Vec<Party>, i: usize, why: u64) -> Out
     requires words { 4 ≤ length words.old.items }
     requires live { IsLiveAt parties.old.items i }
-    ensures { (slots first : ℕ) (parts : Parts) → Row (machine_of slots first words.old.items parties.old.items parts) i (StoreFlag why) result (machine_of slots first words.new.items parties.new.items parts) }
+    ensures { (slots first : ℕ) (parts : Parts) →
+        Row (machine_of slots first words.old.items parties.old.items parts) i (StoreFlag why) result
+        (machine_of slots first words.new.items parties.new.items parts) }
 {
     if !conditions::is_cause(why) {
         return Out::Refused;

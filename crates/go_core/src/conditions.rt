@@ -1,7 +1,8 @@
 // Whether a party may do an act.
 ghost use Rattle.std.specs.Prelude.{◌≡◌, ◌↔◌, ◌<◌, ◌≤◌, IsTrue, length, All, slice_index_or, true};
 ghost use Rattle.go_word.specs.Word.{IsStorable};
-ghost use Rattle.go_core.specs.Acts.{CanClaim, CanTake, CanReadAhead, CanArchive, CanFlush, HasStood, CanTakeTurn, HasAtHome, HasOut, IsLawful, IsCause, CanJoin, IsSession, HasNoTurn};
+ghost use Rattle.go_core.specs.Acts.{CanClaim, CanTake, CanReadAhead, CanArchive, CanFlush, HasStood, CanTakeTurn};
+ghost use Rattle.go_core.specs.Acts.{HasAtHome, HasOut, IsLawful, IsCause, CanJoin, IsSession, HasNoTurn};
 ghost use Rattle.go_core.specs.Machine.{absent};
 
 use crate::home::Parts;

@@ -29,7 +29,8 @@ pub(crate) fn load_durable(
 ) -> Result<Out, AllocError>
     requires words { 4 ≤ length words.now }
     requires live { IsLiveAt parties.old.items i }
-    ensures row { IfOk result (λ out. (slots first : ℕ) (parts : Parts) → Row (machine_of slots first words.now parties.old.items parts) i LoadDurable out (machine_of slots first words.now parties.new.items parts)) }
+    ensures row { IfOk result (λ out. (slots first : ℕ) (parts : Parts) →
+        Row (machine_of slots first words.now parties.old.items parts) i LoadDurable out (machine_of slots first words.now parties.new.items parts)) }
     ensures err { OnErr result (parties.new.items ≡ parties.old.items) }
 {
     let front = words[DURABLE];
@@ -50,7 +51,8 @@ pub(crate) fn load_tentative(
     requires few { slots ≤ 2 ^ 48 }
     requires words { length words.now ≡ 6 + slots }
     requires live { IsLiveAt parties.old.items i }
-    ensures row { IfOk result (λ out. (first : ℕ) (parts : Parts) → Row (machine_of slots first words.now parties.old.items parts) i (LoadTentative at) out (machine_of slots first words.now parties.new.items parts)) }
+    ensures row { IfOk result (λ out. (first : ℕ) (parts : Parts) →
+        Row (machine_of slots first words.now parties.old.items parts) i (LoadTentative at) out (machine_of slots first words.now parties.new.items parts)) }
     ensures err { OnErr result (parties.new.items ≡ parties.old.items) }
 {
     let party = &mut parties[i];

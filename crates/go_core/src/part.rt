@@ -49,7 +49,8 @@ pub trait Part {
     ghost stands_on: { (part : Self) (first : ℕ) (log more : List Edge) → stands_for part first log → stands_for part first (log ++ more) };
 
     /// What its images recover to over a log, they recover to over each longer one.
-    ghost recovers_on: { (part : Self) (log more : List Edge) (vertices first : ℕ) (mark : Mark) → recovers part log vertices first mark → recovers part (log ++ more) vertices first mark };
+    ghost recovers_on: { (part : Self) (log more : List Edge) (vertices first : ℕ) (mark : Mark) →
+        recovers part log vertices first mark → recovers part (log ++ more) vertices first mark };
 }
 
 impl Part for PartState {

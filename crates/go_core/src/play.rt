@@ -18,7 +18,9 @@ pub(crate) fn one(
     event: &Event,
 ) -> Result<Out, AllocError>
     requires ready { IsReady (machine_of slots 0 words.old.items parties.old.items parts.old) event.now.party }
-    ensures row { IfOk result (λ out. (first : ℕ) → Row (machine_of slots first words.old.items parties.old.items parts.old) event.now.party event.now.act out (machine_of slots first words.new.items parties.new.items parts.new)) }
+    ensures row { IfOk result (λ out. (first : ℕ) →
+        Row (machine_of slots first words.old.items parties.old.items parts.old) event.now.party event.now.act out
+        (machine_of slots first words.new.items parties.new.items parts.new)) }
     ensures err_words { OnErr result (words.new.items ≡ words.old.items) }
     ensures err_parties { OnErr result (parties.new.items ≡ parties.old.items) }
     ensures err_parts { OnErr result (parts.new ≡ parts.old) }

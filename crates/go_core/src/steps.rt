@@ -56,7 +56,9 @@ pub(crate) fn claim(
 ) -> Result<Out, AllocError>
     requires words { 4 ≤ length words.old.items }
     requires live { IsLiveAt parties.old.items i }
-    ensures row { IfOk result (λ out. (slots first : ℕ) (parts : Parts) → Row (machine_of slots first words.old.items parties.old.items parts) i (Claim edges.now) out (machine_of slots first words.new.items parties.new.items parts)) }
+    ensures row { IfOk result (λ out. (slots first : ℕ) (parts : Parts) →
+        Row (machine_of slots first words.old.items parties.old.items parts) i (Claim edges.now) out
+        (machine_of slots first words.new.items parties.new.items parts)) }
     ensures err_words { OnErr result (words.new.items ≡ words.old.items) }
     ensures err_parties { OnErr result (parties.new.items ≡ parties.old.items) }
 {
@@ -75,7 +77,8 @@ pub(crate) fn claim(
 pub(crate) fn load_head(words: &[u64], parties: &mut Vec<Party>, i: usize) -> Out
     requires words { 4 ≤ length words.now }
     requires live { IsLiveAt parties.old.items i }
-    ensures { (slots first : ℕ) (parts : Parts) → Row (machine_of slots first words.now parties.old.items parts) i LoadHead result (machine_of slots first words.now parties.new.items parts) }
+    ensures { (slots first : ℕ) (parts : Parts) →
+        Row (machine_of slots first words.now parties.old.items parts) i LoadHead result (machine_of slots first words.now parties.new.items parts) }
 {
     let head = words[HEAD];
     let party = &mut parties[i];
@@ -92,7 +95,8 @@ pub(crate) fn load_archived(
 ) -> Result<Out, AllocError>
     requires words { 4 ≤ length words.now }
     requires live { IsLiveAt parties.old.items i }
-    ensures row { IfOk result (λ out. (slots first : ℕ) (parts : Parts) → Row (machine_of slots first words.now parties.old.items parts) i LoadArchived out (machine_of slots first words.now parties.new.items parts)) }
+    ensures row { IfOk result (λ out. (slots first : ℕ) (parts : Parts) →
+        Row (machine_of slots first words.now parties.old.items parts) i LoadArchived out (machine_of slots first words.now parties.new.items parts)) }
     ensures err { OnErr result (parties.new.items ≡ parties.old.items) }
 {
     let front = words[ARCHIVED];
@@ -124,7 +128,9 @@ pub(crate) fn store_word(
     requires words { length words.old.items ≡ 6 + slots }
     requires live { IsLiveAt parties.old.items i }
     requires storable { All (λ x. IsStorable x.edge) (slice_index_or parties.old.items i absent).view.pending }
-    ensures row { IfOk result (λ out. (first : ℕ) (parts : Parts) → Row (machine_of slots first words.old.items parties.old.items parts) i (StoreWord at) out (machine_of slots first words.new.items parties.new.items parts)) }
+    ensures row { IfOk result (λ out. (first : ℕ) (parts : Parts) →
+        Row (machine_of slots first words.old.items parties.old.items parts) i (StoreWord at) out
+        (machine_of slots first words.new.items parties.new.items parts)) }
     ensures err_words { OnErr result (words.new.items ≡ words.old.items) }
     ensures err_parties { OnErr result (parties.new.items ≡ parties.old.items) }
 {
@@ -154,7 +160,8 @@ pub(crate) fn load_ordered(
     requires words { length words.now ≡ 6 + slots }
     requires live { IsLiveAt parties.old.items i }
     requires taken { (slice_index_or parties.old.items i absent).view.taken ≤ 2 ^ 48 }
-    ensures { (first : ℕ) (parts : Parts) → Row (machine_of slots first words.now parties.old.items parts) i (LoadOrdered at) result (machine_of slots first words.now parties.new.items parts) }
+    ensures { (first : ℕ) (parts : Parts) →
+        Row (machine_of slots first words.now parties.old.items parts) i (LoadOrdered at) result (machine_of slots first words.now parties.new.items parts) }
 {
     let party = &mut parties[i];
     if !conditions::can_take(words, &party.view, at) {
@@ -178,7 +185,9 @@ pub(crate) fn store_archived(
 ) -> Out
     requires words { 4 ≤ length words.old.items }
     requires live { IsLiveAt parties.old.items i }
-    ensures { (slots first : ℕ) (parts : Parts) → Row (machine_of slots first words.old.items parties.old.items parts) i (StoreArchived front) result (machine_of slots first words.new.items parties.new.items parts) }
+    ensures { (slots first : ℕ) (parts : Parts) →
+        Row (machine_of slots first words.old.items parties.old.items parts) i (StoreArchived front) result
+        (machine_of slots first words.new.items parties.new.items parts) }
 {
     let party = &mut parties[i];
     if !conditions::can_archive(words, &party.view, front)
@@ -200,7 +209,9 @@ pub(crate) fn store_durable(
 ) -> Out
     requires words { 4 ≤ length words.old.items }
     requires live { IsLiveAt parties.old.items i }
-    ensures { (slots first : ℕ) (parts : Parts) → Row (machine_of slots first words.old.items parties.old.items parts) i (StoreDurable front) result (machine_of slots first words.new.items parties.new.items parts) }
+    ensures { (slots first : ℕ) (parts : Parts) →
+        Row (machine_of slots first words.old.items parties.old.items parts) i (StoreDurable front) result
+        (machine_of slots first words.new.items parties.new.items parts) }
 {
     let party = &mut parties[i];
     if !conditions::can_flush(words, &party.view, front)
@@ -216,7 +227,8 @@ pub(crate) fn store_durable(
 // A split of a new party.
 pub(crate) fn split(alloc: Global, parties: &mut Vec<Party>, i: usize) -> Result<Out, AllocError>
     requires live { IsLiveAt parties.old.items i }
-    ensures row { IfOk result (λ out. (slots first : ℕ) (words : List ℕ) (parts : Parts) → Row (machine_of slots first words parties.old.items parts) i Split out (machine_of slots first words parties.new.items parts)) }
+    ensures row { IfOk result (λ out. (slots first : ℕ) (words : List ℕ) (parts : Parts) →
+        Row (machine_of slots first words parties.old.items parts) i Split out (machine_of slots first words parties.new.items parts)) }
     ensures err { OnErr result (parties.new.items ≡ parties.old.items) }
 {
     let count = parties.len();
@@ -249,7 +261,8 @@ pub(crate) fn join(
     j: usize,
 ) -> Result<Out, AllocError>
     requires live { IsLiveAt parties.old.items i }
-    ensures row { IfOk result (λ out. (slots first : ℕ) (words : List ℕ) (parts : Parts) → Row (machine_of slots first words parties.old.items parts) i (Join j) out (machine_of slots first words parties.new.items parts)) }
+    ensures row { IfOk result (λ out. (slots first : ℕ) (words : List ℕ) (parts : Parts) →
+        Row (machine_of slots first words parties.old.items parts) i (Join j) out (machine_of slots first words parties.new.items parts)) }
     ensures err { OnErr result (parties.new.items ≡ parties.old.items) }
 {
     if j == i || !conditions::is_live(parties, j) || !may_join(&parties[j]) {

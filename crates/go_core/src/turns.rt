@@ -50,7 +50,9 @@ pub(crate) fn take_turn(
 ) -> Out
     requires words { 6 ≤ length words.old.items }
     requires live { IsLiveAt parties.old.items i }
-    ensures { (slots first : ℕ) → Row (machine_of slots first words.old.items parties.old.items parts.now) i (TakeTurn part) result (machine_of slots first words.new.items parties.new.items parts.now) }
+    ensures { (slots first : ℕ) →
+        Row (machine_of slots first words.old.items parties.old.items parts.now) i (TakeTurn part) result
+        (machine_of slots first words.new.items parties.new.items parts.now) }
 {
     let party = &mut parties[i];
     if !conditions::can_take_turn(parts, &party.stake, part) {
@@ -70,7 +72,8 @@ pub(crate) fn take_turn(
 // A part is taken out.
 pub(crate) fn take_out(parties: &mut Vec<Party>, parts: &mut Parts, i: usize, part: u32) -> Out
     requires live { IsLiveAt parties.old.items i }
-    ensures { (slots first : ℕ) (words : List ℕ) → Row (machine_of slots first words parties.old.items parts.old) i (PartOut part) result (machine_of slots first words parties.new.items parts.new) }
+    ensures { (slots first : ℕ) (words : List ℕ) →
+        Row (machine_of slots first words parties.old.items parts.old) i (PartOut part) result (machine_of slots first words parties.new.items parts.new) }
 {
     let party = &mut parties[i];
     if !conditions::has_at_home(parts, &party.stake, part) {
@@ -83,7 +86,8 @@ pub(crate) fn take_out(parties: &mut Vec<Party>, parts: &mut Parts, i: usize, pa
 
 // Whether a part may be put in.
 fn may_put_in(parts: &Parts, party: &Party, part: u32, state: &PartState) -> bool
-    ensures { IsTrue result ↔ (HasOut parts.now party.now.stake part × IsLawful (part == 0) party.now.view party.now.stake (home_of (part == 0) parts.now).part state.now) }
+    ensures { IsTrue result ↔ (HasOut parts.now party.now.stake part
+        × IsLawful (part == 0) party.now.view party.now.stake (home_of (part == 0) parts.now).part state.now) }
 {
     let shard = part == 0;
     conditions::has_out(parts, &party.stake, part)
@@ -100,7 +104,9 @@ pub(crate) fn put_in(
     state: &PartState,
 ) -> Result<Out, AllocError>
     requires live { IsLiveAt parties.old.items i }
-    ensures row { IfOk result (λ out. (slots first : ℕ) (words : List ℕ) → Row (machine_of slots first words parties.old.items parts.old) i (PartIn part state.now) out (machine_of slots first words parties.new.items parts.new)) }
+    ensures row { IfOk result (λ out. (slots first : ℕ) (words : List ℕ) →
+        Row (machine_of slots first words parties.old.items parts.old) i (PartIn part state.now) out
+        (machine_of slots first words parties.new.items parts.new)) }
     ensures err_parties { OnErr result (parties.new.items ≡ parties.old.items) }
     ensures err_parts { OnErr result (parts.new ≡ parts.old) }
 {
@@ -130,7 +136,9 @@ pub(crate) fn give_turn(
 ) -> Result<Out, AllocError>
     requires words { 6 ≤ length words.old.items }
     requires live { IsLiveAt parties.old.items i }
-    ensures row { IfOk result (λ out. (slots first : ℕ) → Row (machine_of slots first words.old.items parties.old.items parts.now) i (GiveTurn part) out (machine_of slots first words.new.items parties.new.items parts.now)) }
+    ensures row { IfOk result (λ out. (slots first : ℕ) →
+        Row (machine_of slots first words.old.items parties.old.items parts.now) i (GiveTurn part) out
+        (machine_of slots first words.new.items parties.new.items parts.now)) }
     ensures err_words { OnErr result (words.new.items ≡ words.old.items) }
     ensures err_parties { OnErr result (parties.new.items ≡ parties.old.items) }
 {
