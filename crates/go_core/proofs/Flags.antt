@@ -49,13 +49,15 @@ flag_stored f log words views i v why there live cause tied =
     (λ p below. tied.ringed.durable.written p (omega arith))
     in
     word_keeps f log words views i v w words' there (record { unfilled = λ p. refl; stands = λ p. refl; archives = refl; flushes = refl }) moved
-    (λ raised. let large = range.0 in omega arith)
     (record {
-      known = let small = range.1 in omega arith;
-      none_disk = λ none. let large = range.0 in absurd (omega arith);
-      none_memory = λ none. let large = range.0 in absurd (omega arith);
-      disk = λ is. raised_counts (λ u. u.disk_raised) views i v w there (or_right v.disk_raised (why == 1) (ap (λ n. n == 1) (sym flag ∙ is)));
-      memory = λ is. raised_counts (λ u. u.memory_raised) views i v w there (or_right v.memory_raised (why == 2) (ap (λ n. n == 2) (sym flag ∙ is)));
+      raised = λ raised. let large = range.0 in omega arith;
+      cause = record {
+        known = let small = range.1 in omega arith;
+        none_disk = λ none. let large = range.0 in absurd (omega arith);
+        none_memory = λ none. let large = range.0 in absurd (omega arith);
+        disk = λ is. raised_counts (λ u. u.disk_raised) views i v w there (or_right v.disk_raised (why == 1) (ap (λ n. n == 1) (sym flag ∙ is)));
+        memory = λ is. raised_counts (λ u. u.memory_raised) views i v w there (or_right v.memory_raised (why == 2) (ap (λ n. n == 2) (sym flag ∙ is)));
+      };
     })
     (λ on.
     let s = seated_onward f on v (works_still words' v (λ _. archived) (λ _. durable) s0.works) s0 in

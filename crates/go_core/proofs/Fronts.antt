@@ -26,25 +26,33 @@ other_role g views i j v u ne there at_j mine one theirs =
 pub moves_not : (front : ℕ) (role : Bool) (known taken : ℕ) → (role ≡ true → ⊥) → Moves front role known taken
 moves_not front role known taken not = record { knows = λ is. absurd (not is); took = λ is. absurd (not is) }
 
+-- the fronts that a view knows over other words, by which it knows and works as it has to
+pub record KnownFronts (log : List Edge) (words' : List ℕ) (v : View) : Type 0 where
+  pub archived : ℕ
+  pub durable : ℕ
+  pub knows : Knows log words' v.head archived durable
+  pub works : Works words' v.archives v.flushes archived durable v.taken
+
 -- a party stored a word over which the fronts lie at written positions, and of its view alone the known fronts changed
-pub front_keeps : (f : Frame) (log : List Edge) (words : List ℕ) (views : List View) (i : ℕ) (v : View) (words' : List ℕ) (archived durable : ℕ)
-    → get_elem? views i ≡ some v → v.live ≡ true → IsMoved f log words views words' → flag_in words' ≡ flag_in words → Knows log words' v.head archived durable
-    → Works words' v.archives v.flushes archived durable v.taken
+pub front_keeps : (f : Frame) (log : List Edge) (words : List ℕ) (views : List View) (i : ℕ) (v : View) (words' : List ℕ) (now : KnownFronts log words' v)
+    → get_elem? views i ≡ some v → v.live ≡ true → IsMoved f log words views words' → flag_in words' ≡ flag_in words
     → ((j : ℕ) (u : View) → j ≢ i → get_elem? views j ≡ some u → Works words' u.archives u.flushes u.archived u.durable u.taken)
-    → TiedBy f log words views → TiedBy f log words' (set views i (record v { archived = archived; durable = durable; fresh = false }))
-front_keeps f log words views i v words' archived durable there live moved flag knows works others tied =
+    → TiedBy f log words views → TiedBy f log words' (set views i (record v { archived = now.archived; durable = now.durable; fresh = false }))
+front_keeps f log words views i v words' now there live moved flag others tied =
     let s = tied.seated i v there in
-    let w : View = record v { archived = archived; durable = durable; fresh = false } in
+    let w : View = record v { archived = now.archived; durable = now.durable; fresh = false } in
     word_keeps f log words views i v w words' there (record { unfilled = λ p. refl; stands = λ p. refl; archives = refl; flushes = refl }) moved
-    (λ raised. omega arith)
-    (flag_alike (flag_in words) (flag_in words') views i v w there (record { disk = refl; memory = refl }) flag tied.flag)
+    (record {
+      raised = λ raised. omega arith;
+      cause = flag_alike (flag_in words) (flag_in words') views i v w there (record { disk = refl; memory = refl }) flag tied.flag;
+    })
     (λ on.
     record {
       ended = λ dead. still_live v _ live dead;
       takes = s.takes;
       sees = sees_onward f on v.seen v.marked s.sees;
-      knows = knows;
-      works = works;
+      knows = now.knows;
+      works = now.works;
       owes = owes_onward f on v.pending v.abandoned s.owes;
       owns = owns_onward f on v.own v.joined s.owns;
       reads = reads_onward f on v.marked v.loads s.reads;
@@ -87,12 +95,17 @@ archived_stored f log words views i v front there live role from to tied =
     let long = four_there f log words views tied in
     let here : archived_in (set words 1 front) ≡ front = word_here words 1 front (omega arith) in
     let other : durable_in (set words 1 front) ≡ durable_in words = word_other words 1 2 front (λ e. omega arith) in
-    front_keeps f log words views i v (set words 1 front) front v.durable there live (store_moves f log words views i v front false there tied from to)
-    (word_other words 1 3 front (λ e. omega arith)) (record { head_to = s.knows.head_to; archived_to = omega arith; durable_to = omega arith })
+    front_keeps f log words views i v (set words 1 front)
     (record {
-      archiver = record { knows = λ _. sym here; took = λ _. omega arith };
-      flusher = moves_still (durable_in words) (durable_in (set words 1 front)) v.flushes v.durable v.taken (λ _. other) s.works.flusher;
+      archived = front;
+      durable = v.durable;
+      knows = record { head_to = s.knows.head_to; archived_to = omega arith; durable_to = omega arith };
+      works = record {
+        archiver = record { knows = λ _. sym here; took = λ _. omega arith };
+        flusher = moves_still (durable_in words) (durable_in (set words 1 front)) v.flushes v.durable v.taken (λ _. other) s.works.flusher;
+      };
     })
+    there live (store_moves f log words views i v front false there tied from to) (word_other words 1 3 front (λ e. omega arith))
     (λ j u ne at_j.
     record {
       archiver = moves_not (archived_in (set words 1 front)) u.archives u.archived u.taken
@@ -112,12 +125,17 @@ durable_stored f log words views i v front there live role from to tied =
     let long = four_there f log words views tied in
     let here : durable_in (set words 2 front) ≡ front = word_here words 2 front (omega arith) in
     let other : archived_in (set words 2 front) ≡ archived_in words = word_other words 2 1 front (λ e. omega arith) in
-    front_keeps f log words views i v (set words 2 front) v.archived front there live (store_moves f log words views i v front true there tied from to)
-    (word_other words 2 3 front (λ e. omega arith)) (record { head_to = s.knows.head_to; archived_to = omega arith; durable_to = omega arith })
+    front_keeps f log words views i v (set words 2 front)
     (record {
-      archiver = moves_still (archived_in words) (archived_in (set words 2 front)) v.archives v.archived v.taken (λ _. other) s.works.archiver;
-      flusher = record { knows = λ _. sym here; took = λ _. omega arith };
+      archived = v.archived;
+      durable = front;
+      knows = record { head_to = s.knows.head_to; archived_to = omega arith; durable_to = omega arith };
+      works = record {
+        archiver = moves_still (archived_in words) (archived_in (set words 2 front)) v.archives v.archived v.taken (λ _. other) s.works.archiver;
+        flusher = record { knows = λ _. sym here; took = λ _. omega arith };
+      };
     })
+    there live (store_moves f log words views i v front true there tied from to) (word_other words 2 3 front (λ e. omega arith))
     (λ j u ne at_j.
     record {
       archiver = moves_still (archived_in words) (archived_in (set words 2 front)) u.archives u.archived u.taken (λ _. other)

@@ -251,14 +251,18 @@ word_moved f log words views k n from to archived durable archived_written durab
       durable_written = durable_written;
     }
 
+-- a flag that was raised is raised still, and is a cause that a view raised
+pub record FlagStays (words words' : List ℕ) (views' : List View) : Type 0 where
+  pub raised : 0 < flag_in words → 0 < flag_in words'
+  pub cause : IsFlag (flag_in words') views'
+
 -- such a word was written by a party of which nothing that is counted changed: the others last where their fronts stand still
 pub word_keeps : (f : Frame) (log : List Edge) (words : List ℕ) (views : List View) (i : ℕ) (v w : View) (words' : List ℕ) → get_elem? views i ≡ some v
-    → Alike v w
-    → IsMoved f log words views words' → (0 < flag_in words → 0 < flag_in words') → IsFlag (flag_in words') (set views i w)
+    → Alike v w → IsMoved f log words views words' → FlagStays words words' (set views i w)
     → (Onward log words views log words' (set views i w) → Seated f log words' (set views i w) w)
     → ((j : ℕ) (u : View) → j ≢ i → get_elem? views j ≡ some u → Works words' u.archives u.flushes u.archived u.durable u.taken)
     → TiedBy f log words views → TiedBy f log words' (set views i w)
-word_keeps f log words views i v w words' there alike moved raised flag mine others tied =
+word_keeps f log words views i v w words' there alike moved flag mine others tied =
     let same = alike_regrouped views i v w there alike in
     let on : Onward log words views log words' (set views i w) =
     record {
@@ -267,8 +271,8 @@ word_keeps f log words views i v w words' there alike moved raised flag mine oth
       written = λ p written. written_same log views (set views i w) p (same.owed p) written;
       archived = moved.archived;
       durable = moved.durable;
-      flag = raised;
+      flag = flag.raised;
     }
     in
-    moved_keeps f log words views words' (set views i w) moved same flag
+    moved_keeps f log words views words' (set views i w) moved same flag.cause
     (each_set (Seated f log words' (set views i w)) views i w (mine on) (λ j u ne at_j. seated_onward f on u (others j u ne at_j) (tied.seated j u at_j))) tied

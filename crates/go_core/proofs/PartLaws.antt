@@ -1,5 +1,5 @@
 -- The clauses on the parts last: as the log grows, as a front moves over what the parts hold, and as a part is put in as a lawful successor.
-use Rattle.std.proofs.Common.{◌≡◌, ℕ, zero, suc, ◌<◌, ◌≤◌, ◌≢◌, ◌⊎◌, Bool, true, false, List, [], ◌∷◌, set, refl, ap, ◌∙◌, inl, inr, ⊎_elim, arith, subst}
+use Rattle.std.proofs.Common.{◌≡◌, ℕ, zero, suc, ◌<◌, ◌≤◌, ◌≢◌, ◌⊎◌, Bool, true, false, List, [], ◌∷◌, set, refl, ap, ◌∙◌, inl, inr, ⊎_elim, arith, subst, sym}
 use Rattle.std.specs.Prelude.{Option, Some, None, find, max, slice_get, count_by, if◌then◌else◌}
 use Rattle.std.proofs.lemmas.Bool.{cases_eq}
 use Rattle.std.proofs.lemmas.Option.{same_Some, none-some}
@@ -10,7 +10,7 @@ use Rattle.go_word.specs.declared.edge.Edge.{Edge}
 use Rattle.go_word.specs.declared.pin.Pin.{Pin}
 use Rattle.go_core.specs.declared.part.PartState.{PartState}
 use Rattle.go_core.specs.declared.view.View.{View}
-use Rattle.go_core.specs.Frame.{Frame}
+use Rattle.go_core.specs.Frame.{Frame, archived_in, durable_in}
 use Rattle.go_word.specs.Pins.{is_named}
 use Rattle.go_core.specs.Rule.{IsWritten}
 use Rattle.go_core.specs.Parts.{reach_of, IsReached, IsShardPlace, IsFilePlace, IsPartOf, IsShardOf, IsInHand, ArePartsOf, Follows, IsSuccessor}
@@ -90,13 +90,29 @@ shard_successor reach known archived own old new known_to is s =
       names = keeps.names;
     }
 
+-- a shard is put in as a lawful successor, whose party may bring it so far over what is written and knows no front past the archived one
+pub record PutsShard (log : List Edge) (words : List ℕ) (views : List View) (old new : PartState) : Type 0 where
+  pub reach : ℕ
+  pub known : ℕ
+  pub own : ℕ → Bool
+  pub known_to : known ≤ archived_in words
+  pub written : (p : ℕ) → p < reach → IsWritten log views p
+  pub reached : IsReached views reach
+  pub is : IsSuccessor reach known own old new
+
+-- the file is, by a party that took so much, all of it written
+pub record PutsFile (log : List Edge) (views : List View) (old new : PartState) : Type 0 where
+  pub taken : ℕ
+  pub written : (p : ℕ) → p < taken → IsWritten log views p
+  pub is : IsFileSuccessor taken old new
+
 module _ {P : Type 0} (state_of : P → PartState) (StandsFor : P → List Edge → Type 0) where
   -- the log grew, and what was written stays written
-  pub parts_onward : (f : Frame) (log log' : List Edge) (archived durable : ℕ) (views views' : List View) (parts : List P)
+  pub parts_onward : (f : Frame) (log log' : List Edge) (words : List ℕ) (views views' : List View) (parts : List P)
       → ((part : P) → StandsFor part log → StandsFor part log') → ((p : ℕ) → IsWritten log views p → IsWritten log' views' p)
-      → ((front : ℕ) → IsReached views front → IsReached views' front) → ArePartsOf state_of StandsFor f log archived durable views parts
-      → ArePartsOf state_of StandsFor f log' archived durable views' parts
-  parts_onward f log log' archived durable views views' parts stands written reached are =
+      → ((front : ℕ) → IsReached views front → IsReached views' front) → ArePartsOf state_of StandsFor f log words views parts
+      → ArePartsOf state_of StandsFor f log' words views' parts
+  parts_onward f log log' words views views' parts stands written reached are =
       record {
         of_log = λ place part there. let of = are.of_log place part there in
             record { stands = stands part of.stands; written = λ p below. written p (of.written p below) };
@@ -105,37 +121,42 @@ module _ {P : Type 0} (state_of : P → PartState) (StandsFor : P → List Edge 
         file = are.file;
       }
 
-  -- the archived front moved over what each shard holds
-  pub parts_archived : (f : Frame) (log : List Edge) (archived front durable : ℕ) (views : List View) (parts : List P) → archived ≤ front
-      → ((place : ℕ) (part : P) → slice_get parts place ≡ Some part → IsShardPlace f place → front ≤ (state_of part).front)
-      → ArePartsOf state_of StandsFor f log archived durable views parts
-      → ArePartsOf state_of StandsFor f log front durable views parts
-  parts_archived f log archived front durable views parts onward stood are =
+  -- the fronts moved over what each shard and the file hold
+  pub parts_moved : (f : Frame) (log : List Edge) (words words' : List ℕ) (views : List View) (parts : List P) → archived_in words ≤ archived_in words'
+      → ((place : ℕ) (part : P) → slice_get parts place ≡ Some part → IsShardPlace f place → archived_in words' ≤ (state_of part).front)
+      → ((place : ℕ) (part : P) → slice_get parts place ≡ Some part → IsFilePlace f place → durable_in words' ≤ (state_of part).front)
+      → ArePartsOf state_of StandsFor f log words views parts → ArePartsOf state_of StandsFor f log words' views parts
+  parts_moved f log words words' views parts onward shards file are =
       record {
         of_log = are.of_log;
         shards = λ place part there shard.
             (let s = are.shards place part there shard in
             let cut_to = s.cut_to in
             record {
-              archived_to = stood place part there shard;
+              archived_to = shards place part there shard;
               cut_to = omega arith;
               cut_pins = s.cut_pins;
-              pins_to = All-weaker (λ pin. pin.front ≤ archived) (λ pin. pin.front ≤ front) (λ pin small. omega arith) (state_of part).pins s.pins_to;
+              pins_to = All-weaker (λ pin. pin.front ≤ archived_in words) (λ pin. pin.front ≤ archived_in words') (λ pin small. omega arith)
+                  (state_of part).pins s.pins_to;
               names = s.names;
             });
         reached = are.reached;
-        file = are.file;
+        file = file;
       }
 
-  -- the durable front moved over what the file holds
-  pub parts_durable : (f : Frame) (log : List Edge) (archived durable front : ℕ) (views : List View) (parts : List P)
-      → ((place : ℕ) (part : P) → slice_get parts place ≡ Some part → IsFilePlace f place → front ≤ (state_of part).front)
-      → ArePartsOf state_of StandsFor f log archived durable views parts
-      → ArePartsOf state_of StandsFor f log archived front views parts
-  parts_durable f log archived durable front views parts stood are = record { of_log = are.of_log; shards = are.shards; reached = are.reached; file = stood }
+  -- other words were written, and the fronts stand still
+  pub parts_still : (f : Frame) (log : List Edge) (words words' : List ℕ) (views : List View) (parts : List P) → archived_in words' ≡ archived_in words
+      → durable_in words' ≡ durable_in words → ArePartsOf state_of StandsFor f log words views parts → ArePartsOf state_of StandsFor f log words' views parts
+  parts_still f log words words' views parts archived durable are =
+      record {
+        of_log = are.of_log;
+        shards = λ place part there shard. subst (λ n. IsShardOf n (state_of part)) (sym archived) (are.shards place part there shard);
+        reached = are.reached;
+        file = λ place part there file. subst (λ n. n ≤ (state_of part).front) (sym durable) (are.file place part there file);
+      }
 
-  module _ (f : Frame) (log : List Edge) (archived durable : ℕ) (views : List View) (parts : List P) (at : ℕ) (old new : P)
-      (there : slice_get parts at ≡ Some old) (are : ArePartsOf state_of StandsFor f log archived durable views parts) where
+  module _ (f : Frame) (log : List Edge) (words : List ℕ) (views : List View) (parts : List P) (at : ℕ) (old new : P)
+      (there : slice_get parts at ≡ Some old) (are : ArePartsOf state_of StandsFor f log words views parts) where
     -- a part is put in that goes on to at most a reach: each part stands for the log
     grown_of_log : (reach : ℕ) → (state_of new).front ≤ max (state_of old).front reach → ((p : ℕ) → p < reach → IsWritten log views p) → StandsFor new log
         → (place : ℕ) (part : P) → slice_get (set parts at new) place ≡ Some part → IsPartOf state_of StandsFor log views part
@@ -149,46 +170,43 @@ module _ {P : Type 0} (state_of : P → PartState) (StandsFor : P → List Edge 
         }))
         (λ other. are.of_log place part other) (get-set parts at place new part there')
 
-    -- a shard is put in as a lawful successor, whose party may bring it so far over what is written and knows no front past the archived one
-    pub shard_put : (reach known : ℕ) (own : ℕ → Bool) → IsShardPlace f at → known ≤ archived → ((p : ℕ) → p < reach → IsWritten log views p)
-        → IsReached views reach
-        → StandsFor new log → IsSuccessor reach known own (state_of old) (state_of new)
-        → ArePartsOf state_of StandsFor f log archived durable views (set parts at new)
-    shard_put reach known own shard known_to written reached stands is =
+    -- a shard is put in
+    pub shard_put : IsShardPlace f at → StandsFor new log → PutsShard log words views (state_of old) (state_of new)
+        → ArePartsOf state_of StandsFor f log words views (set parts at new)
+    shard_put shard stands puts =
         let s = are.shards at old there shard in
-        let front_to = is.onward.front_to in
+        let front_to = puts.is.onward.front_to in
         record {
-          of_log = grown_of_log reach front_to written stands;
+          of_log = grown_of_log puts.reach front_to puts.written stands;
           shards = λ place part there' shard'.
               ⊎_elim
-              (λ here. subst (λ z. IsShardOf archived (state_of z)) here.1
-              (shard_successor reach known archived own (state_of old) (state_of new) known_to is s))
+              (λ here. subst (λ z. IsShardOf (archived_in words) (state_of z)) here.1
+              (shard_successor puts.reach puts.known (archived_in words) puts.own (state_of old) (state_of new) puts.known_to puts.is s))
               (λ other. are.shards place part other shard') (get-set parts at place new part there');
           reached = λ place part there' shard'.
               ⊎_elim
               (λ here.
               subst (λ z. IsReached views (state_of z).front) here.1
-              (grown_reached views (state_of old).front (state_of new).front reach front_to (are.reached at old there shard) reached))
+              (grown_reached views (state_of old).front (state_of new).front puts.reach front_to (are.reached at old there shard) puts.reached))
               (λ other. are.reached place part other shard') (get-set parts at place new part there');
           file = λ place part there' file.
               ⊎_elim (λ here. let is_at = here.0 in absurd (omega arith)) (λ other. are.file place part other file) (get-set parts at place new part there');
         }
 
     -- the file is put in
-    pub file_put : (taken : ℕ) → IsFilePlace f at → ((p : ℕ) → p < taken → IsWritten log views p) → StandsFor new log
-        → IsFileSuccessor taken (state_of old) (state_of new) → ArePartsOf state_of StandsFor f log archived durable views (set parts at new)
-    file_put taken file written stands is =
+    pub file_put : IsFilePlace f at → StandsFor new log → PutsFile log views (state_of old) (state_of new)
+        → ArePartsOf state_of StandsFor f log words views (set parts at new)
+    file_put file stands puts =
         let before = are.file at old there file in
-        let front_from = is.front_from in
-        let front_to = is.front_to in
+        let front_from = puts.is.front_from in
         record {
-          of_log = grown_of_log taken front_to written stands;
+          of_log = grown_of_log puts.taken puts.is.front_to puts.written stands;
           shards = λ place part there' shard.
               ⊎_elim (λ here. let is_at = here.0 in absurd (omega arith)) (λ other. are.shards place part other shard) (get-set parts at place new part there');
           reached = λ place part there' shard.
               ⊎_elim (λ here. let is_at = here.0 in absurd (omega arith)) (λ other. are.reached place part other shard)
               (get-set parts at place new part there');
           file = λ place part there' file'.
-              ⊎_elim (λ here. subst (λ z. durable ≤ (state_of z).front) here.1 (omega arith)) (λ other. are.file place part other file')
+              ⊎_elim (λ here. subst (λ z. durable_in words ≤ (state_of z).front) here.1 (omega arith)) (λ other. are.file place part other file')
               (get-set parts at place new part there');
         }

@@ -23,7 +23,7 @@ use Rattle.go_core.proofs.Lookups.{lookup-get_or, lookup-set}
 use Rattle.go_core.proofs.Totals.{total-set, term-le}
 use Rattle.go_core.proofs.Moved.{word_here, word_other}
 use Rattle.go_core.proofs.Claims.{All-lookup}
-use Rattle.go_core.proofs.PartLaws.{parts_onward, parts_archived, parts_durable}
+use Rattle.go_core.proofs.PartLaws.{parts_onward, parts_moved, parts_still}
 
 -- a party's view is among the views, and its stake among the stakes
 pub view_at : (parties : List Party) (i : ℕ) → get_or (views_of parties) i spent ≡ (get_or parties i absent).view
@@ -133,36 +133,49 @@ parties_parted m parties' stakes' log stakes written reached turns known pinned 
     let st = λ (s : PartState). s in
     record {
       two = are.two;
-      parts = parts_onward st Reaches m.frame log log (archived_in m.words) (durable_in m.words) (views_of m.parties) (views_of parties') (states_of m.parts)
-          (λ s reaches. reaches) written reached are.parts;
+      parts = parts_onward st Reaches m.frame log log m.words (views_of m.parties) (views_of parties') (states_of m.parts) (λ s reaches. reaches)
+          written reached are.parts;
       turns = λ part. subst (IsTurn (λ s. (hold_of part s).turn) (turn_in part m.words)) (sym stakes) (turns part);
       homes = are.homes;
       known = λ part. subst (All (λ s. (hold_of part s).front ≤ (home_of part m.parts).part.front)) (sym stakes) (known part);
       pinned = subst (ArePinned (λ (s : Stake). s.pins) (λ s. s.put) (λ s. s.shard.turn) m.parts.shard.part.pins) (sym stakes) pinned;
     }
 
--- a step that tells nothing of the parts
-pub parted_on : (m : Machine) (words' : List ℕ) (parties' : List Party) (log log' : List Edge) → Beside m.words words'
-    → stakes_of parties' ≡ stakes_of m.parties
-    → length log ≤ length log' → ((p : ℕ) → IsWritten log (views_of m.parties) p → IsWritten log' (views_of parties') p)
-    → ((front : ℕ) → IsReached (views_of m.parties) front → IsReached (views_of parties') front) → AreParted m log
+-- a step that tells nothing of the parts, over which they stand by the words that are then
+parted_on : (m : Machine) (words' : List ℕ) (parties' : List Party) (log log' : List Edge) → ((part : Bool) → turn_in part words' ≡ turn_in part m.words)
+    → stakes_of parties' ≡ stakes_of m.parties → length log ≤ length log'
+    → ((p : ℕ) → IsWritten log (views_of m.parties) p → IsWritten log' (views_of parties') p)
+    → ((front : ℕ) → IsReached (views_of m.parties) front → IsReached (views_of parties') front)
+    → ArePartsOf (λ (s : PartState). s) Reaches m.frame log words' (views_of m.parties) (states_of m.parts) → AreParted m log
     → AreParted (record m { words = words'; parties = parties' }) log'
-parted_on m words' parties' log log' beside stakes longer written reached are =
-    let views' = views_of parties' in
-    let st = λ (s : PartState). s in
-    let on = parts_onward st Reaches m.frame log log' (archived_in m.words) (durable_in m.words) (views_of m.parties) views' (states_of m.parts)
-    (reaches_longer log log' longer) written reached are.parts in
+parted_on m words' parties' log log' turns stakes longer written reached parts are =
     record {
       two = are.two;
-      parts = subst (λ n. ArePartsOf st Reaches m.frame log' n (durable_in words') views' (states_of m.parts)) (sym beside.archived)
-          (subst (λ n. ArePartsOf st Reaches m.frame log' (archived_in m.words) n views' (states_of m.parts)) (sym beside.durable) on);
+      parts = parts_onward (λ (s : PartState). s) Reaches m.frame log log' words' (views_of m.parties) (views_of parties') (states_of m.parts)
+          (reaches_longer log log' longer) written reached parts;
       turns = λ part.
-          subst (λ n. IsTurn (λ s. (hold_of part s).turn) n (stakes_of parties')) (sym (beside.turns part))
+          subst (λ n. IsTurn (λ s. (hold_of part s).turn) n (stakes_of parties')) (sym (turns part))
           (subst (λ ss. IsTurn (λ s. (hold_of part s).turn) (turn_in part m.words) ss) (sym stakes) (are.turns part));
-      homes = λ part out. subst (λ n. 0 < n) (sym (beside.turns part)) (are.homes part out);
+      homes = λ part out. subst (λ n. 0 < n) (sym (turns part)) (are.homes part out);
       known = λ part. subst (All (λ s. (hold_of part s).front ≤ (home_of part m.parts).part.front)) (sym stakes) (are.known part);
       pinned = subst (ArePinned (λ s. s.pins) (λ s. s.put) (λ s. s.shard.turn) m.parts.shard.part.pins) (sym stakes) are.pinned;
     }
+
+-- so of one party that keeps its stake and owes no more
+party_parted : (m : Machine) (i : ℕ) (w : View) (words' : List ℕ) (log log' : List Edge) → (party_at m i).view.live ≡ true
+    → ((part : Bool) → turn_in part words' ≡ turn_in part m.words) → length log ≤ length log'
+    → ((p : ℕ) → p < length log → unfilled p w ≤ unfilled p (party_at m i).view) → GoesOn (party_at m i).view w
+    → ArePartsOf (λ (s : PartState). s) Reaches m.frame log words' (views_of m.parties) (states_of m.parts) → AreParted m log
+    → AreParted (record m { words = words'; parties = set m.parties i (record { view = w; stake = (party_at m i).stake }) }) log'
+party_parted m i w words' log log' live turns longer less on parts are =
+    let p : Party = record { view = w; stake = (party_at m i).stake } in
+    let same = views-set m.parties i p in
+    let there = party_there m i live in
+    parted_on m words' (set m.parties i p) log log' turns (stakes_kept m.parties i w) longer
+    (λ q written. subst (λ vs. IsWritten log' vs q) (sym same)
+    (written_less log log' (views_of m.parties) i (party_at m i).view w there longer less q written))
+    (λ front reached. subst (λ vs. IsReached vs front) (sym same)
+    (reached_set (views_of m.parties) i (party_at m i).view w there on front reached)) parts are
 
 -- a step of one party that keeps its stake and owes no more: where it keeps the tie of words and views, it keeps the machine tied
 pub kept : (m : Machine) (i : ℕ) (w : View) (words' : List ℕ) (log log' : List Edge) → (party_at m i).view.live ≡ true → Beside m.words words'
@@ -170,15 +183,11 @@ pub kept : (m : Machine) (i : ℕ) (w : View) (words' : List ℕ) (log log' : Li
     → TiedBy m.frame log' words' (set (views_of m.parties) i w) → length log' ≤ 2 ^ 48 → IsTied m log
     → IsTied (record m { words = words'; parties = set m.parties i (record { view = w; stake = (party_at m i).stake }) }) log'
 kept m i w words' log log' live beside longer less on tied fits old =
-    let p : Party = record { view = w; stake = (party_at m i).stake } in
-    let same = views-set m.parties i p in
     record {
-      tied = subst (TiedBy m.frame log' words') (sym same) tied;
-      parted = parted_on m words' (set m.parties i p) log log' beside (stakes_kept m.parties i w) longer
-          (λ q written. subst (λ vs. IsWritten log' vs q) (sym same)
-          (written_less log log' (views_of m.parties) i (party_at m i).view w (party_there m i live) longer less q written))
-          (λ front reached. subst (λ vs. IsReached vs front) (sym same)
-          (reached_set (views_of m.parties) i (party_at m i).view w (party_there m i live) on front reached)) old.parted;
+      tied = subst (TiedBy m.frame log' words') (sym (views-set m.parties i (record { view = w; stake = (party_at m i).stake }))) tied;
+      parted = party_parted m i w words' log log' live beside.turns longer less on
+          (parts_still (λ (s : PartState). s) Reaches m.frame log m.words words' (views_of m.parties) (states_of m.parts) beside.archived beside.durable
+          old.parted.parts) old.parted;
       fits = fits;
     }
 
@@ -194,35 +203,6 @@ file_only f parts zero part two there file = absurd (omega arith)
 file_only f parts (suc zero) part two there file = same_Some parts.file.part part there
 file_only f parts (suc (suc place)) part two there file = absurd (omega arith)
 
--- one front was stored: the turns, and what parties know and hold, are as they were
-front_parted : (m : Machine) (i : ℕ) (w : View) (k front : ℕ) (log : List Edge) → 4 ≢ k → 5 ≢ k → (party_at m i).view.live ≡ true
-    → ((p : ℕ) → unfilled p w ≤ unfilled p (party_at m i).view)
-    → GoesOn (party_at m i).view w
-    → ArePartsOf (λ (s : PartState). s) Reaches m.frame log (archived_in (set m.words k front)) (durable_in (set m.words k front)) (views_of m.parties)
-    (states_of m.parts) → AreParted m log
-    → AreParted (record m { words = set m.words k front; parties = set m.parties i (record { view = w; stake = (party_at m i).stake }) }) log
-front_parted m i w k front log four five live less on parts are =
-    let words' = set m.words k front in
-    let p : Party = record { view = w; stake = (party_at m i).stake } in
-    let stakes = stakes_kept m.parties i w in
-    let same = views-set m.parties i p in
-    let st = λ (s : PartState). s in
-    record {
-      two = are.two;
-      parts = parts_onward st Reaches m.frame log log (archived_in words') (durable_in words') (views_of m.parties) (views_of (set m.parties i p))
-          (states_of m.parts) (λ s reaches. reaches)
-          (λ q written. subst (λ vs. IsWritten log vs q) (sym same)
-          (written_less log log (views_of m.parties) i (party_at m i).view w (party_there m i live) (omega arith) (λ n within. less n) q written))
-          (λ n reached. subst (λ vs. IsReached vs n) (sym same)
-          (reached_set (views_of m.parties) i (party_at m i).view w (party_there m i live) on n reached)) parts;
-      turns = λ part.
-          subst (λ n. IsTurn (λ s. (hold_of part s).turn) n (stakes_of (set m.parties i p))) (sym (turn_other part m.words k front four five))
-          (subst (λ ss. IsTurn (λ s. (hold_of part s).turn) (turn_in part m.words) ss) (sym stakes) (are.turns part));
-      homes = λ part out. subst (λ n. 0 < n) (sym (turn_other part m.words k front four five)) (are.homes part out);
-      known = λ part. subst (All (λ s. (hold_of part s).front ≤ (home_of part m.parts).part.front)) (sym stakes) (are.known part);
-      pinned = subst (ArePinned (λ s. s.pins) (λ s. s.put) (λ s. s.shard.turn) m.parts.shard.part.pins) (sym stakes) are.pinned;
-    }
-
 -- the archived front was stored, over what the party knows the shard to have
 pub archived_parted : (m : Machine) (i front : ℕ) (log : List Edge) → (party_at m i).view.live ≡ true → 1 < length m.words → archived_in m.words ≤ front
     → front ≤ (party_at m i).stake.shard.front → AreParted m log
@@ -233,18 +213,15 @@ pub archived_parted : (m : Machine) (i front : ℕ) (log : List Edge) → (party
     }) log
 archived_parted m i front log live some' onward stood are =
     let words' = set m.words 1 front in
-    let st = λ (s : PartState). s in
     let known : (party_at m i).stake.shard.front ≤ m.parts.shard.part.front = All-lookup (λ s. (hold_of true s).front ≤ m.parts.shard.part.front)
     (stakes_of m.parties) i (party_at m i).stake (are.known true) (stake_there m i live) in
     let archived : archived_in words' ≡ front = word_here m.words 1 front some' in
     let durable : durable_in words' ≡ durable_in m.words = word_other m.words 1 2 front (λ e. omega arith) in
-    let moved = parts_archived st Reaches m.frame log (archived_in m.words) front (durable_in m.words) (views_of m.parties) (states_of m.parts) onward
-    (λ place part there shard. subst (λ (s : PartState). front ≤ s.front) (shard_only m.frame m.parts place part are.two there shard) (omega arith)) are.parts
-    in
-    front_parted m i (archiving front (party_at m i).view) 1 front log (λ e. omega arith) (λ e. omega arith) live (λ p. omega arith)
-    (λ role. (role, omega arith))
-    (subst (λ n. ArePartsOf st Reaches m.frame log n (durable_in words') (views_of m.parties) (states_of m.parts)) (sym archived)
-    (subst (λ n. ArePartsOf st Reaches m.frame log front n (views_of m.parties) (states_of m.parts)) (sym durable) moved)) are
+    party_parted m i (archiving front (party_at m i).view) words' log log live
+    (λ part. turn_other part m.words 1 front (λ e. omega arith) (λ e. omega arith)) (omega arith) (λ p within. omega arith) (λ role. (role, omega arith))
+    (parts_moved (λ (s : PartState). s) Reaches m.frame log m.words words' (views_of m.parties) (states_of m.parts) (omega arith)
+    (λ place part there shard. subst (λ (s : PartState). archived_in words' ≤ s.front) (shard_only m.frame m.parts place part are.two there shard) (omega arith))
+    (λ place part there file. subst (λ n. n ≤ part.front) (sym durable) (are.parts.file place part there file)) are.parts) are
 
 -- the durable front was stored, over what the party knows the file to have
 pub durable_parted : (m : Machine) (i front : ℕ) (log : List Edge) → (party_at m i).view.live ≡ true → 2 < length m.words
@@ -256,15 +233,13 @@ pub durable_parted : (m : Machine) (i front : ℕ) (log : List Edge) → (party_
     }) log
 durable_parted m i front log live some' stood are =
     let words' = set m.words 2 front in
-    let st = λ (s : PartState). s in
     let known : (party_at m i).stake.file.front ≤ m.parts.file.part.front = All-lookup (λ s. (hold_of false s).front ≤ m.parts.file.part.front)
     (stakes_of m.parties) i (party_at m i).stake (are.known false) (stake_there m i live) in
     let durable : durable_in words' ≡ front = word_here m.words 2 front some' in
     let archived : archived_in words' ≡ archived_in m.words = word_other m.words 2 1 front (λ e. omega arith) in
-    let moved = parts_durable st Reaches m.frame log (archived_in m.words) (durable_in m.words) front (views_of m.parties) (states_of m.parts)
-    (λ place part there file. subst (λ (s : PartState). front ≤ s.front) (file_only m.frame m.parts place part are.two there file) (omega arith)) are.parts
-    in
-    front_parted m i (flushing front (party_at m i).view) 2 front log (λ e. omega arith) (λ e. omega arith) live (λ p. omega arith)
-    (λ role. (role, omega arith))
-    (subst (λ n. ArePartsOf st Reaches m.frame log n (durable_in words') (views_of m.parties) (states_of m.parts)) (sym archived)
-    (subst (λ n. ArePartsOf st Reaches m.frame log (archived_in m.words) n (views_of m.parties) (states_of m.parts)) (sym durable) moved)) are
+    party_parted m i (flushing front (party_at m i).view) words' log log live
+    (λ part. turn_other part m.words 2 front (λ e. omega arith) (λ e. omega arith)) (omega arith) (λ p within. omega arith) (λ role. (role, omega arith))
+    (parts_moved (λ (s : PartState). s) Reaches m.frame log m.words words' (views_of m.parties) (states_of m.parts) (omega arith)
+    (λ place part there shard. subst (λ n. n ≤ part.front) (sym archived) (are.parts.shards place part there shard).archived_to)
+    (λ place part there file. subst (λ (s : PartState). durable_in words' ≤ s.front) (file_only m.frame m.parts place part are.two there file) (omega arith))
+    are.parts) are

@@ -13,6 +13,7 @@ use Rattle.go_core.specs.Parts.{KeepsPins, IsPinnedBy, ArePinned}
 use Rattle.go_core.proofs.Lookups.{lookup-get_or, lookup-set_other, lookup-same}
 use Rattle.go_core.proofs.PinLaws.{named_in, has-in, has-pin, has-append}
 use Rattle.go_core.proofs.Totals.{bit_of}
+use Rattle.go_core.proofs.Claims.{All-lookup}
 use Rattle.go_core.proofs.TurnLaws.{count-set, count-push, not_two, count-none}
 
 -- a condition that implies another counts no more
@@ -30,6 +31,12 @@ bit_sum false b c implies = omega arith
 pub named_passes : (test : Pin → Bool) (all : List Pin) (id : ℕ) → has_name id (filter test all) ≡ true → (p : Pin) × (test p ≡ true) × (p.id ≡ id)
 named_passes test all id is = let found = has-pin id (filter test all) is in
     (found.0, All-contains (λ x. test x ≡ true) (filter test all) found.0 (filter_passes test all) found.1, found.2)
+
+-- two places of a list, with what stands at them
+pub record AreTwo {S : Type 0} (parties : List S) (i j : ℕ) (s o : S) : Type 0 where
+  pub ne : j ≢ i
+  pub there : get_elem? parties i ≡ some s
+  pub other : get_elem? parties j ≡ some o
 
 module _ {S : Type 0} (pins put : S → List Pin) (has : S → Bool) where
   -- one party has other pins, and no name more
@@ -61,31 +68,40 @@ module _ {S : Type 0} (pins put : S → List Pin) (has : S → Bool) where
             omega arith);
       }
 
-  -- another party is joined in, which has no turn
-  pub pinned_joined : (held : List Pin) (parties : List S) (i j : ℕ) (s o both gone : S) → j ≢ i → get_elem? parties i ≡ some s → get_elem? parties j ≡ some o
-      → IsPinnedBy pins put has held s → IsPinnedBy pins put has held o → has o ≡ false → has both ≡ has s
-      → pins both ≡ pins s ++ pins o → put both ≡ put s → pins gone ≡ [] → put gone ≡ [] → ArePinned pins put has held parties
-      → ArePinned pins put has held (set (set parties i both) j gone)
-  pinned_joined held parties i j s o both gone ne there other mine theirs free turn all_pins as_put none none_put are =
+  -- what two parties make that are joined, of which the other has no turn, and what is left of that
+  pub record IsJoin (s o both gone : S) : Type 0 where
+    pub free : has o ≡ false
+    pub turn : has both ≡ has s
+    pub all_pins : pins both ≡ pins s ++ pins o
+    pub as_put : put both ≡ put s
+    pub none : pins gone ≡ []
+    pub none_put : put gone ≡ []
+
+  -- another party is joined in
+  pub pinned_joined : (held : List Pin) (parties : List S) (i j : ℕ) (s o both gone : S) → AreTwo parties i j s o → IsJoin s o both gone
+      → ArePinned pins put has held parties → ArePinned pins put has held (set (set parties i both) j gone)
+  pinned_joined held parties i j s o both gone two join are =
+      let mine = All-lookup (IsPinnedBy pins put has held) parties i s are.each two.there in
+      let theirs = All-lookup (IsPinnedBy pins put has held) parties j o are.each two.other in
       record {
         each = All-set (IsPinnedBy pins put has held) (set parties i both) j gone
-            (record { pinned = λ _. subst (All (Contains held)) (sym none) (All-nil (Contains held)); none_put = λ _. none_put })
+            (record { pinned = λ _. subst (All (Contains held)) (sym join.none) (All-nil (Contains held)); none_put = λ _. join.none_put })
             (All-set (IsPinnedBy pins put has held) parties i both
             (record {
-              pinned = λ not'. subst (All (Contains held)) (sym all_pins)
-                  (All-append (Contains held) (pins s) (pins o) (mine.pinned (sym turn ∙ not')) (theirs.pinned free));
-              none_put = λ not'. as_put ∙ mine.none_put (sym turn ∙ not');
+              pinned = λ not'. subst (All (Contains held)) (sym join.all_pins)
+                  (All-append (Contains held) (pins s) (pins o) (mine.pinned (sym join.turn ∙ not')) (theirs.pinned join.free));
+              none_put = λ not'. join.as_put ∙ mine.none_put (sym join.turn ∙ not');
             }) are.each);
         apart = λ id.
-            (let other' : get_elem? (set parties i both) j ≡ some o = lookup-set_other parties i j both ne ∙ other in
-            let first = count-set (λ x. owns_name id (pins x) (put x)) parties i s both there in
+            (let other' : get_elem? (set parties i both) j ≡ some o = lookup-set_other parties i j both two.ne ∙ two.other in
+            let first = count-set (λ x. owns_name id (pins x) (put x)) parties i s both two.there in
             let second = count-set (λ x. owns_name id (pins x) (put x)) (set parties i both) j o gone other' in
             let few = are.apart id in
-            let no_name : owns_name id (pins gone) (put gone) ≡ false = ap (λ ps. has_name id ps || has_name id (put gone)) none
-            ∙ ap (λ ps. has_name id ps) none_put in
+            let no_name : owns_name id (pins gone) (put gone) ≡ false = ap (λ ps. has_name id ps || has_name id (put gone)) join.none
+            ∙ ap (λ ps. has_name id ps) join.none_put in
             let nothing : bit_of (owns_name id (pins gone) (put gone)) ≡ 0 = ap bit_of no_name in
             let sum = bit_sum (owns_name id (pins both) (put both)) (owns_name id (pins s) (put s)) (owns_name id (pins o) (put o))
-            (λ is. joined_name id s o both all_pins as_put is) in
+            (λ is. joined_name id s o both join.all_pins join.as_put is) in
             omega arith);
       }
     where
@@ -101,19 +117,24 @@ module _ {S : Type 0} (pins put : S → List Pin) (has : S → Bool) where
           (or_right (has_name id (pins s)) (has_name id (put s)) (ap (has_name id) (sym as_put) ∙ in_put)))
           (or_cases (has_name id (pins both)) (has_name id (put both)) is)
 
-  -- the party that has the turn puts the shard in
-  module _ (parties : List S) (i : ℕ) (s s' : S) (archived : ℕ) (old new : PartState) (there : get_elem? parties i ≡ some s) (mine : has s ≡ true)
-      (few : count_by has parties ≤ 1) (keeps : KeepsPins archived (λ id. owns_name id (pins s) (put s)) old new)
-      (are : ArePinned pins put has old.pins parties) where
+  -- a party has the turn, and the shard may be put in as another by what becomes of its pins
+  pub record PutsIn (parties : List S) (i : ℕ) (s : S) (archived : ℕ) (old new : PartState) : Type 0 where
+    pub there : get_elem? parties i ≡ some s
+    pub mine : has s ≡ true
+    pub few : count_by has parties ≤ 1
+    pub keeps : KeepsPins archived (λ id. owns_name id (pins s) (put s)) old new
+    pub are : ArePinned pins put has old.pins parties
+
+  module _ (parties : List S) (i : ℕ) (s : S) (archived : ℕ) (old new : PartState) (by : PutsIn parties i s archived old new) where
     -- another party has no turn
     pub no_turn : (k : ℕ) (t : S) → k ≢ i → get_elem? parties k ≡ some t → has t ≡ false
-    no_turn k t ne other = ⊎_elim (λ theirs. absurd (not_two has parties i k s t ne there other few mine theirs)) (λ free. free) (cases_Bool (has t))
+    no_turn k t ne other = ⊎_elim (λ theirs. absurd (not_two has parties i k s t ne by.there other by.few by.mine theirs)) (λ free. free) (cases_Bool (has t))
 
     -- and a name of its pins isn't that of the party with the turn
     not_mine : (k : ℕ) (t : S) (id : ℕ) → k ≢ i → get_elem? parties k ≡ some t → owns_name id (pins t) (put t) ≡ true → owns_name id (pins s) (put s) ≡ false
     not_mine k t id ne other theirs =
         ⊎_elim (λ (own : owns_name id (pins s) (put s) ≡ true). absurd
-        (not_two (λ x. owns_name id (pins x) (put x)) parties i k s t ne there other (are.apart id) own theirs)) (λ free. free)
+        (not_two (λ x. owns_name id (pins x) (put x)) parties i k s t ne by.there other (by.are.apart id) own theirs)) (λ free. free)
         (cases_Bool (owns_name id (pins s) (put s)))
 
     -- so what another party holds is still there
@@ -124,15 +145,15 @@ module _ {S : Type 0} (pins put : S → List Pin) (has : S → Bool) where
         record {
           pinned = λ free q e inside.
               (let pin = get_or (pins t) q e in
-              let ne : k ≢ i = λ same. both_ways (has t) free (ap has (lookup-same parties i t s (sym (ap (get_elem? parties) same) ∙ other) there) ∙ mine) in
-              let held : Contains old.pins pin = (are.each k d within).pinned free q e inside in
+              let ne : k ≢ i = λ same. both_ways (has t) free (ap has (lookup-same parties i t s (sym (ap (get_elem? parties) same) ∙ other) by.there) ∙ by.mine) in
+              let held : Contains old.pins pin = (by.are.each k d within).pinned free q e inside in
               let named : has_name pin.id (pins t) ≡ true = has-in (pins t) pin (Contains-get_or (pins t) q e inside) in
               let not' : owns_name pin.id (pins s) (put s) ≡ false = not_mine k t pin.id ne other
               (or_left (has_name pin.id (pins t)) (has_name pin.id (put t)) named) in
               let stays : find (is_named pin.id) new.pins ≡ Some pin = All-contains
-              (λ x. owns_name x.id (pins s) (put s) ≡ false → find (is_named x.id) new.pins ≡ Some x) old.pins pin keeps.others held not' in
+              (λ x. owns_name x.id (pins s) (put s) ≡ false → find (is_named x.id) new.pins ≡ Some x) old.pins pin by.keeps.others held not' in
               (named_in pin.id new.pins pin stays).0);
-          none_put = (are.each k d within).none_put;
+          none_put = (by.are.each k d within).none_put;
         }
 
     -- a new name was nobody's
@@ -145,9 +166,9 @@ module _ {S : Type 0} (pins put : S → List Pin) (has : S → Bool) where
         ⊎_elim
         (λ (theirs : owns_name id (pins t) (put t) ≡ true).
         let ne : k ≢ i = λ same. both_ways (owns_name id (pins t) (put t))
-        (ap (λ x. owns_name id (pins x) (put x)) (lookup-same parties i t s (sym (ap (get_elem? parties) same) ∙ other) there) ∙ not') theirs in
+        (ap (λ x. owns_name id (pins x) (put x)) (lookup-same parties i t s (sym (ap (get_elem? parties) same) ∙ other) by.there) ∙ not') theirs in
         let free : has t ≡ false = no_turn k t ne other in
-        let one = are.each k d within in
+        let one = by.are.each k d within in
         let named : has_name id (pins t) ≡ true =
         ⊎_elim (λ in_pins. in_pins) (λ in_put. absurd (false≢true (sym (ap (has_name id) (one.none_put free)) ∙ in_put)))
         (or_cases (has_name id (pins t)) (has_name id (put t)) theirs)
@@ -158,16 +179,16 @@ module _ {S : Type 0} (pins put : S → List Pin) (has : S → Bool) where
         absurd (both_ways (has_name id old.pins) fresh there'))
         (λ none. none) (cases_Bool (owns_name id (pins t) (put t)))))
 
-    pub pinned_put : has s' ≡ true → pins s' ≡ pins s → put s' ≡ filter (is_own_or_new (pins s) (put s) old.pins) new.pins
+    pub pinned_put : (s' : S) → has s' ≡ true → pins s' ≡ pins s → put s' ≡ filter (is_own_or_new (pins s) (put s) old.pins) new.pins
         → ArePinned pins put has new.pins (set parties i s')
-    pinned_put turn same_pins is_put =
+    pinned_put s' turn same_pins is_put =
         let test : Pin → Bool = is_own_or_new (pins s) (put s) old.pins in
         record {
           each = All-set (IsPinnedBy pins put has new.pins) parties i s'
               (record { pinned = λ free. absurd (both_ways (has s') free turn); none_put = λ free. absurd (both_ways (has s') free turn) }) still_held;
           apart = λ id.
-              (let change = count-set (λ x. owns_name id (pins x) (put x)) parties i s s' there in
-              let before = are.apart id in
+              (let change = count-set (λ x. owns_name id (pins x) (put x)) parties i s s' by.there in
+              let before = by.are.apart id in
               ⊎_elim
               (λ (now : owns_name id (pins s') (put s') ≡ true).
               let one : bit_of (owns_name id (pins s') (put s')) ≡ 1 = ap bit_of now in

@@ -149,19 +149,25 @@ one_row_turn (Ok out) slots words words' parties parties' parts i act a is row =
     (λ b. Row (machine_of slots first words parties parts) i b out (machine_of slots first words' parties' parts)) (sym is) (row slots first)
 one_row_turn (Err failed) slots words words' parties parties' parts i act a is row = tt
 
+-- where memory was wanting, nothing changed
+pub record Unchanged (r : Result Out AllocError) (words words' : List ℕ) (parties parties' : List Party) (parts parts' : Parts) : Type 0 where
+  pub words_same : OnErr r (words' ≡ words)
+  pub parties_same : OnErr r (parties' ≡ parties)
+  pub parts_same : OnErr r (parts' ≡ parts)
+
 -- a machine stands after a step, done or not
 pub stands_after : (slots first : ℕ) (words words' : List ℕ) (parties parties' : List Party) (parts parts' : Parts) (i : ℕ) (act : Act)
     (r : Result Out AllocError) → Stands (machine_of slots first words parties parts)
-    → IfOk r (λ out. (f : ℕ) → Row (machine_of slots f words parties parts) i act out (machine_of slots f words' parties' parts')) → OnErr r (words' ≡ words)
-    → OnErr r (parties' ≡ parties) → OnErr r (parts' ≡ parts) → Stands (machine_of slots first words' parties' parts')
-stands_after slots first words words' parties parties' parts parts' i act (Ok out) stands row same_words same_parties same_parts =
+    → IfOk r (λ out. (f : ℕ) → Row (machine_of slots f words parties parts) i act out (machine_of slots f words' parties' parts'))
+    → Unchanged r words words' parties parties' parts parts' → Stands (machine_of slots first words' parties' parts')
+stands_after slots first words words' parties parties' parts parts' i act (Ok out) stands row same =
     let m = machine_of slots first words parties parts in
     let now = machine_of slots first words' parties' parts' in
     stands_on m now (stands.log ++ claims act out) refl stands (row_keeps m i act out now stands.log (row first) stands.tied)
-stands_after slots first words words' parties parties' parts parts' i act (Err failed) stands row same_words same_parties same_parts =
-    subst (λ ws. Stands (machine_of slots first ws parties' parts')) (sym same_words)
-    (subst (λ ps. Stands (machine_of slots first words ps parts')) (sym same_parties)
-    (subst (λ hs. Stands (machine_of slots first words parties hs)) (sym same_parts) stands))
+stands_after slots first words words' parties parties' parts parts' i act (Err failed) stands row same =
+    subst (λ ws. Stands (machine_of slots first ws parties' parts')) (sym same.words_same)
+    (subst (λ ps. Stands (machine_of slots first words ps parts')) (sym same.parties_same)
+    (subst (λ hs. Stands (machine_of slots first words parties hs)) (sym same.parts_same) stands))
 
 -- and what it was tied to, it still is, followed by what was claimed
 pub tied_after : (slots first : ℕ) (words words' : List ℕ) (parties parties' : List Party) (parts parts' : Parts) (i : ℕ) (act : Act)

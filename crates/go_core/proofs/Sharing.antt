@@ -12,7 +12,7 @@ use Rattle.go_core.specs.declared.party.Party.{Party}
 use Rattle.go_core.specs.declared.stake.Stake.{Stake}
 use Rattle.go_core.specs.View.{count_at, unfilled, spent, unmoved, split_off, joining}
 use Rattle.go_core.specs.Rule.{owed, IsWritten}
-use Rattle.go_core.specs.Parts.{IsReached, IsPinnedBy}
+use Rattle.go_core.specs.Parts.{IsReached}
 use Rattle.go_core.specs.Turns.{hold_of, home_of}
 use Rattle.go_core.specs.Acts.{CanJoin, HasNoTurn}
 use Rattle.go_core.specs.Machine.{Machine, AreParted, views_of, stakes_of, absent, no_stake, stake_off, stakes_joined, party_at, turn_in}
@@ -122,10 +122,6 @@ join_parted m i j log live ne can no_turn are =
     ∙ ap (λ vs. set vs j spent) (views-set m.parties i p) in
     let more : stakes_of (set (set m.parties i p) j absent) ≡ set (set stakes i both) j no_stake = stakes-set (set m.parties i p) j absent
     ∙ ap (λ ss. set ss j no_stake) (stakes-set m.parties i p) in
-    let one : (k : ℕ) (t : Stake) → get_elem? stakes k ≡ some t
-    → IsPinnedBy (λ (z : Stake). z.pins) (λ z. z.put) (λ z. z.shard.turn) m.parts.shard.part.pins t = λ k t at_k.
-    All-lookup (IsPinnedBy (λ (z : Stake). z.pins) (λ z. z.put) (λ z. z.shard.turn) m.parts.shard.part.pins) stakes k t are.pinned.each at_k
-    in
     parties_parted m (set (set m.parties i p) j absent) (set (set stakes i both) j no_stake) log more
     (λ q written. subst (λ vs. IsWritten log vs q) (sym views)
     (joined_written log (views_of m.parties) i j v w ne (party_there m i live) (party_there m j can.live) can.pending q written))
@@ -144,8 +140,9 @@ join_parted m i j log live ne can no_turn are =
     (All-set P stakes i both
     (both_front part s o (home_of part m.parts).part.front (All-lookup P stakes i s (are.known part) there)
     (All-lookup P stakes j o (are.known part) other)) (are.known part)))
-    (pinned_joined (λ (z : Stake). z.pins) (λ z. z.put) (λ z. z.shard.turn) m.parts.shard.part.pins stakes i j s o both no_stake ne there other
-    (one i s there) (one j o other) no_turn.shard refl refl refl refl refl are.pinned) are
+    (pinned_joined (λ (z : Stake). z.pins) (λ z. z.put) (λ z. z.shard.turn) m.parts.shard.part.pins stakes i j s o both no_stake
+    (record { ne = ne; there = there; other = other })
+    (record { free = no_turn.shard; turn = refl; all_pins = refl; as_put = refl; none = refl; none_put = refl }) are.pinned) are
   where
     gone_turn : (part : Bool) → (hold_of part no_stake).turn ≡ false
     gone_turn true = refl

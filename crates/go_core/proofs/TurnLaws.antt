@@ -115,10 +115,15 @@ turn_stored f log words views i v k n there live from to tied =
     let moved = word_moved f log words views k n (omega arith) to (omega arith) (omega arith) (λ p below. tied.ringed.archived.written p (omega arith))
     (λ p below. tied.ringed.durable.written p (omega arith))
     in
-    front_keeps f log words views i v words' v.archived v.durable there live moved (word_other words k 3 n (λ e. omega arith))
-    (let old = s.knows in
-    let one = old.archived_to in
-    let two = old.durable_to in
-    record { head_to = old.head_to; archived_to = omega arith; durable_to = omega arith })
-    (works_still words' v (λ _. archived) (λ _. durable) s.works)
+    front_keeps f log words views i v words'
+    (record {
+      archived = v.archived;
+      durable = v.durable;
+      knows = let old = s.knows in
+          let one = old.archived_to in
+          let two = old.durable_to in
+          record { head_to = old.head_to; archived_to = omega arith; durable_to = omega arith };
+      works = works_still words' v (λ _. archived) (λ _. durable) s.works;
+    })
+    there live moved (word_other words k 3 n (λ e. omega arith))
     (λ j u ne at_j. works_still words' u (λ _. archived) (λ _. durable) (tied.seated j u at_j).works) tied

@@ -22,7 +22,7 @@ use Rattle.go_core.proofs.Moved.{within_log, word_here, word_other}
 use Rattle.go_core.proofs.Claims.{All-lookup}
 use Rattle.go_core.proofs.TurnLaws.{turn_taken, turn_given, turn_same, turn_had}
 use Rattle.go_core.proofs.Pinned.{pinned_set, pinned_put, named_passes}
-use Rattle.go_core.proofs.PartLaws.{parts_onward, reach_taken, reach_reached, shard_put, file_put}
+use Rattle.go_core.proofs.PartLaws.{parts_onward, parts_still, reach_taken, reach_reached, shard_put, file_put}
 use Rattle.go_core.proofs.Parted.{party_there, stake_there, views-set, stakes-set, written_less, reached_set}
 
 -- what a party holds of each part
@@ -42,7 +42,7 @@ of_two P one two false = two
 module _ (m : Machine) (i : ℕ) (s' : Stake) (words' : List ℕ) (parts' : Parts) (log : List Edge) (live : (party_at m i).view.live ≡ true)
     (are : AreParted m log) where
   stake_step : archived_in words' ≡ archived_in m.words → durable_in words' ≡ durable_in m.words
-      → ArePartsOf (λ (s : PartState). s) Reaches m.frame log (archived_in m.words) (durable_in m.words) (views_of m.parties) (states_of parts')
+      → ArePartsOf (λ (s : PartState). s) Reaches m.frame log m.words (views_of m.parties) (states_of parts')
       → ((part : Bool) → IsTurn (has_turn part) (turn_in part words') (set (stakes_of m.parties) i s'))
       → ((part : Bool) → (home_of part parts').out ≡ true → 0 < turn_in part words')
       → ((part : Bool) → All (λ s. (hold_of part s).front ≤ (home_of part parts').part.front) (set (stakes_of m.parties) i s'))
@@ -54,8 +54,7 @@ module _ (m : Machine) (i : ℕ) (s' : Stake) (words' : List ℕ) (parts' : Part
       let same = views-set m.parties i p in
       let stakes = stakes-set m.parties i p in
       let st = λ (s : PartState). s in
-      let on = parts_onward st Reaches m.frame log log (archived_in m.words) (durable_in m.words) (views_of m.parties) (views_of (set m.parties i p))
-      (states_of parts') (λ s reaches. reaches)
+      let on = parts_onward st Reaches m.frame log log m.words (views_of m.parties) (views_of (set m.parties i p)) (states_of parts') (λ s reaches. reaches)
       (λ q written. subst (λ vs. IsWritten log vs q) (sym same)
       (written_less log log (views_of m.parties) i v (unmoved v) (party_there m i live) (omega arith) (λ n within. omega arith) q written))
       (λ front reached. subst (λ vs. IsReached vs front) (sym same)
@@ -63,8 +62,7 @@ module _ (m : Machine) (i : ℕ) (s' : Stake) (words' : List ℕ) (parts' : Part
       in
       record {
         two = are.two;
-        parts = subst (λ n. ArePartsOf st Reaches m.frame log n (durable_in words') (views_of (set m.parties i p)) (states_of parts')) (sym archived)
-            (subst (λ n. ArePartsOf st Reaches m.frame log (archived_in m.words) n (views_of (set m.parties i p)) (states_of parts')) (sym durable) on);
+        parts = parts_still st Reaches m.frame log m.words words' (views_of (set m.parties i p)) (states_of parts') archived durable on;
         turns = λ part. subst (IsTurn (has_turn part) (turn_in part words')) (sym stakes) (turns part);
         homes = homes;
         known = λ part. subst (All (λ s. (hold_of part s).front ≤ (home_of part parts').part.front)) (sym stakes) (known part);
@@ -210,10 +208,17 @@ put_parted m i true state log live turn lawful tied are =
     let within = taken_within m i log live tied in
     let reach : Reaches state log = up_to_either state.front old.front (reach_of v) (length log) lawful.onward.front_to (are.parts.of_log 0 old refl).stands
     (omega arith) in
-    let parts : ArePartsOf st Reaches m.frame log (archived_in m.words) (durable_in m.words) (views_of m.parties) (states_of parts') =
-    shard_put st Reaches m.frame log (archived_in m.words) (durable_in m.words) (views_of m.parties) (states_of m.parts) 0 old state refl are.parts
-    (reach_of v) v.archived (λ id. owns_name id s.pins s.put) (omega arith) seat.knows.archived_to
-    (λ p less. seat.sees.written p (omega arith)) (reach_reached (views_of m.parties) i v (party_there m i live) tied.one_archiver) reach lawful
+    let parts : ArePartsOf st Reaches m.frame log m.words (views_of m.parties) (states_of parts') =
+    shard_put st Reaches m.frame log m.words (views_of m.parties) (states_of m.parts) 0 old state refl are.parts (omega arith) reach
+    (record {
+      reach = reach_of v;
+      known = v.archived;
+      own = λ id. owns_name id s.pins s.put;
+      known_to = seat.knows.archived_to;
+      written = λ p less. seat.sees.written p (omega arith);
+      reached = reach_reached (views_of m.parties) i v (party_there m i live) tied.one_archiver;
+      is = lawful;
+    })
     in
     stake_step m i s' m.words parts' log live are refl refl parts
     (of_two (λ part. IsTurn (has_turn part) (turn_in part m.words) (set stakes i s')) (same_turn m i s' m.words parts' log live are true refl)
@@ -225,8 +230,8 @@ put_parted m i true state log live turn lawful tied are =
     (same_front m i s' m.words parts' log live are false refl))
     (let few = (are.turns true).counts in
     let one = (are.turns true).one in
-    pinned_put (λ (z : Stake). z.pins) (λ z. z.put) (λ z. z.shard.turn) stakes i s s' v.archived old state (stake_there m i live) turn
-    (omega arith) lawful.keeps are.pinned turn refl refl)
+    pinned_put (λ (z : Stake). z.pins) (λ z. z.put) (λ z. z.shard.turn) stakes i s v.archived old state
+    (record { there = stake_there m i live; mine = turn; few = omega arith; keeps = lawful.keeps; are = are.pinned }) s' turn refl refl)
 put_parted m i false state log live turn lawful tied are =
     let v = (party_at m i).view in
     let s = (party_at m i).stake in
@@ -240,9 +245,9 @@ put_parted m i false state log live turn lawful tied are =
     let front_from = lawful.front_from in
     let reach : Reaches state log = up_to_either state.front old.front v.taken (length log) lawful.front_to (are.parts.of_log 1 old refl).stands
     (taken_within m i log live tied) in
-    let parts : ArePartsOf st Reaches m.frame log (archived_in m.words) (durable_in m.words) (views_of m.parties) (states_of parts') =
-    file_put st Reaches m.frame log (archived_in m.words) (durable_in m.words) (views_of m.parties) (states_of m.parts) 1 old state refl are.parts v.taken
-    (omega arith) (λ p less. seat.sees.written p (omega arith)) reach lawful
+    let parts : ArePartsOf st Reaches m.frame log m.words (views_of m.parties) (states_of parts') =
+    file_put st Reaches m.frame log m.words (views_of m.parties) (states_of m.parts) 1 old state refl are.parts (omega arith) reach
+    (record { taken = v.taken; written = λ p less. seat.sees.written p (omega arith); is = lawful })
     in
     stake_step m i s m.words parts' log live are refl refl parts (λ part. same_turn m i s m.words parts' log live are part refl)
     (of_two (λ part. (home_of part parts').out ≡ true → 0 < turn_in part m.words) (λ out. are.homes true out) (λ out. absurd (false≢true out)))

@@ -50,7 +50,7 @@ turn_in part words = slice_index words (turn_place part)
 -- what the rule says of the parts: what they hold, whose turns they are, and that what parties know of them lags behind
 pub record AreParted (m : Machine) (log : List Edge) : Type 0 where
   pub two : m.frame.base ≡ 6
-  pub parts : ArePartsOf (λ (s : PartState). s) Reaches m.frame log (archived_in m.words) (durable_in m.words) (views_of m.parties) (states_of m.parts)
+  pub parts : ArePartsOf (λ (s : PartState). s) Reaches m.frame log m.words (views_of m.parties) (states_of m.parts)
   pub turns : (part : Bool) → IsTurn (λ s. (hold_of part s).turn) (turn_in part m.words) (stakes_of m.parties)
   pub homes : (part : Bool) → (home_of part m.parts).out ≡ true → 0 < turn_in part m.words
   pub known : (part : Bool) → All (λ s. (hold_of part s).front ≤ (home_of part m.parts).part.front) (stakes_of m.parties)

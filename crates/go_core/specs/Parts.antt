@@ -8,7 +8,7 @@ use Rattle.go_word.specs.declared.edge.Edge.{Edge}
 use Rattle.go_word.specs.declared.pin.Pin.{Pin}
 use Rattle.go_core.specs.declared.part.PartState.{PartState}
 use Rattle.go_core.specs.declared.view.View.{View}
-use Rattle.go_core.specs.Frame.{Frame}
+use Rattle.go_core.specs.Frame.{Frame, archived_in, durable_in}
 use Rattle.go_word.specs.Pins.{is_named}
 use Rattle.go_core.specs.Pins.{owns_name}
 use Rattle.go_core.specs.Rule.{IsWritten}
@@ -67,11 +67,11 @@ module _ {P : Type 0} (state_of : P → PartState) (StandsFor : P → List Edge 
     pub written : (p : ℕ) → p < (state_of part).front → IsWritten log views p
 
   -- what the rule says of the parts, a list by place; a part that is out is spoken of as it was taken
-  pub record ArePartsOf (f : Frame) (log : List Edge) (archived durable : ℕ) (views : List View) (parts : List P) : Type 0 where
+  pub record ArePartsOf (f : Frame) (log : List Edge) (words : List ℕ) (views : List View) (parts : List P) : Type 0 where
     pub of_log : (place : ℕ) (part : P) → slice_get parts place ≡ Some part → IsPartOf log views part
-    pub shards : (place : ℕ) (part : P) → slice_get parts place ≡ Some part → IsShardPlace f place → IsShardOf archived (state_of part)
+    pub shards : (place : ℕ) (part : P) → slice_get parts place ≡ Some part → IsShardPlace f place → IsShardOf (archived_in words) (state_of part)
     pub reached : (place : ℕ) (part : P) → slice_get parts place ≡ Some part → IsShardPlace f place → IsReached views (state_of part).front
-    pub file : (place : ℕ) (part : P) → slice_get parts place ≡ Some part → IsFilePlace f place → durable ≤ (state_of part).front
+    pub file : (place : ℕ) (part : P) → slice_get parts place ≡ Some part → IsFilePlace f place → durable_in words ≤ (state_of part).front
 
 -- a pin of a shard that is given back, by the shard's cut, the archived front that the party knows, whether the name is the party's, and what
 -- stood under the name: a new one stands at the cut, the party's own may go upwards as far as that front, and another's stays

@@ -14,7 +14,8 @@ pub invariant_of-self : goal.invariant_of-self
 invariant_of-self c =
     let n = c.self.inside in
     stands_after n.slots n.first n.words.items c.one.new.words.items n.parties.items c.one.new.parties.items n.parts c.one.new.parts c.args.event.now.party
-    c.args.event.now.act c.one.result c.self.invariant c.one.ensures.row c.one.ensures.err_words c.one.ensures.err_parties c.one.ensures.err_parts
+    c.args.event.now.act c.one.result c.self.invariant c.one.ensures.row
+    (record { words_same = c.one.ensures.err_words; parties_same = c.one.ensures.err_parties; parts_same = c.one.ensures.err_parts })
 
 pub returns-clause-tied : goal.returns-clause-tied
 returns-clause-tied c =
