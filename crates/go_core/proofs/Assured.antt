@@ -18,7 +18,7 @@ use Rattle.go_core.specs.Frame.{slot, archived_in, durable_in, released}
 use Rattle.go_core.specs.Acts.{CanReadAhead}
 use Rattle.go_core.specs.Rule.{IsSound, Tells}
 use Rattle.go_core.specs.Machine.{Machine, IsTied, views_of, party_at, Does, Row, claims}
-use Rattle.go_core.specs.History.{Run, all_claims, ReadsFront, IsFrontRead, IsAssured, IsCopied, AreSure}
+use Rattle.go_core.specs.History.{Run, all_claims, ReadsFront, IsFrontRead, IsAssured, IsCopied, AreSure, Copy}
 use Rattle.go_core.proofs.Lookups.{lookup-some, lookup-longer}
 use Rattle.go_core.proofs.Loads.{in_window, matched-decode}
 use Rattle.go_core.proofs.Flags.{sure_tells}
@@ -105,33 +105,33 @@ row_copied m i p x now log row tied from =
     (λ not. absurd (word-refused x not.1)) row
 
 -- over a run
-pub run_copied : (m : Machine) (es : List Event) (outs : List Out) (now : Machine) (log : List Edge) → Run m es outs now → IsTied m log → (k i p x : ℕ)
-    → IsAssured es outs k i p x → IsCopied m es outs (log ++ all_claims es outs) k i p x
-run_copied m es [] now log run tied k i p x read = absurd (some-ne-none (Word x) (sym read.answer))
-run_copied m [] (out ∷ outs) now log run tied k i p x read = absurd run
-run_copied m (e ∷ es) (out ∷ outs) now log run tied zero i p x read =
+pub run_copied : (m : Machine) (es : List Event) (outs : List Out) (now : Machine) (log : List Edge) → Run m es outs now → IsTied m log → (k : ℕ) (c : Copy)
+    → IsAssured es outs k c → IsCopied m es outs (log ++ all_claims es outs) k c
+run_copied m es [] now log run tied k c read = absurd (some-ne-none (Word c.word) (sym read.answer))
+run_copied m [] (out ∷ outs) now log run tied k c read = absurd run
+run_copied m (e ∷ es) (out ∷ outs) now log run tied zero c read =
     let next = run.0 in
-    let event : e ≡ record { party = i; act = LoadTentative p } = some-injective e _ read.event in
-    let answer : out ≡ Word x = some-injective out (Word x) read.answer in
-    let row : Row m i (LoadTentative p) (Word x) next = subst (λ o. Row m i (LoadTentative p) o next) answer
+    let event : e ≡ record { party = c.party; act = LoadTentative c.at } = some-injective e _ read.event in
+    let answer : out ≡ Word c.word = some-injective out (Word c.word) read.answer in
+    let row : Row m c.party (LoadTentative c.at) (Word c.word) next = subst (λ o. Row m c.party (LoadTentative c.at) o next) answer
     (subst (λ (z : Event). Row m z.party z.act out next) event run.1) in
     let front = read.front in
     let from : released m.words ≤ front = front_later m (e ∷ es) (out ∷ outs) now log read.later front run tied read.read in
     let up_to = read.up_to in
-    let told = row_copied m i p x next log row tied (omega arith) in
+    let told = row_copied m c.party c.at c.word next log row tied (omega arith) in
     record {
-      matched = λ matched. lookup-longer log (claims e.act out ++ all_claims es outs) p (decode x) (told.0 matched);
+      matched = λ matched. lookup-longer log (claims e.act out ++ all_claims es outs) c.at (decode c.word) (told.0 matched);
       unmatched = λ unmatched. record { machine = m; run = refl; unseen = told.1 unmatched };
     }
-run_copied m (e ∷ es) (out ∷ outs) now log run tied (suc k) i p x read =
+run_copied m (e ∷ es) (out ∷ outs) now log run tied (suc k) c read =
     let next = run.0 in
     let kept = row_keeps m e.party e.act out next log run.1 tied in
     let frame = row_frame m e.party e.act out next run.1 in
-    let rest = run_copied next es outs now (log ++ claims e.act out) run.2 kept k i p x (later_read e es out outs k i p x read) in
+    let rest = run_copied next es outs now (log ++ claims e.act out) run.2 kept k c (later_read e es out outs k c read) in
     record {
-      matched = λ matched. subst (λ l. get_elem? l p ≡ some (decode x)) (append_assoc log (claims e.act out) (all_claims es outs))
-          (rest.matched (subst (λ f. is_matched f.slots p x ≡ true) (sym frame) matched));
-      unmatched = λ unmatched. let u = rest.unmatched (subst (λ f. is_matched f.slots p x ≡ false) (sym frame) unmatched) in
+      matched = λ matched. subst (λ l. get_elem? l c.at ≡ some (decode c.word)) (append_assoc log (claims e.act out) (all_claims es outs))
+          (rest.matched (subst (λ f. is_matched f.slots c.at c.word ≡ true) (sym frame) matched));
+      unmatched = λ unmatched. let u = rest.unmatched (subst (λ f. is_matched f.slots c.at c.word ≡ false) (sym frame) unmatched) in
           record { machine = u.machine; run = (next, run.1, u.run); unseen = u.unseen };
     }
   where
@@ -139,26 +139,24 @@ run_copied m (e ∷ es) (out ∷ outs) now log run tied (suc k) i p x read =
         → IsFrontRead es outs later n
     back e es out outs k later n after read = record { event = read.event; there = read.there; reads = read.reads; answer = read.answer }
 
-    by_later : (e : Event) (es : List Event) (out : Out) (outs : List Out) (k i p x later front : ℕ)
-        → get_elem? es k ≡ some (record { party = i; act = LoadTentative p }) → get_elem? outs k ≡ some (Word x) → suc k < later
-        → IsFrontRead (e ∷ es) (out ∷ outs) later front → front ≤ p
-        → IsAssured es outs k i p x
-    by_later e es out outs k i p x zero front event answer after read up_to = absurd (omega arith)
-    by_later e es out outs k i p x (suc later) front event answer after read up_to =
+    by_later : (e : Event) (es : List Event) (out : Out) (outs : List Out) (k later : ℕ) (c : Copy) (read : IsAssured (e ∷ es) (out ∷ outs) (suc k) c)
+        → read.later ≡ later → IsAssured es outs k c
+    by_later e es out outs k zero c read is = let after = read.after in absurd (omega arith)
+    by_later e es out outs k (suc later) c read is =
         record {
-          event = event;
-          answer = answer;
+          event = read.event;
+          answer = read.answer;
           later = later;
-          after = omega arith;
-          front = front;
-          read = back e es out outs k later front
-              (omega arith) read;
-          up_to = up_to;
+          after = let after = read.after in omega arith;
+          front = read.front;
+          read = back e es out outs k later read.front (let after = read.after in omega arith)
+              (subst (λ l. IsFrontRead (e ∷ es) (out ∷ outs) l read.front) is read.read);
+          up_to = read.up_to;
         }
 
-    later_read : (e : Event) (es : List Event) (out : Out) (outs : List Out) (k i p x : ℕ) → IsAssured (e ∷ es) (out ∷ outs) (suc k) i p x
-        → IsAssured es outs k i p x
-    later_read e es out outs k i p x read = by_later e es out outs k i p x read.later read.front read.event read.answer read.after read.read read.up_to
+    later_read : (e : Event) (es : List Event) (out : Out) (outs : List Out) (k : ℕ) (c : Copy) → IsAssured (e ∷ es) (out ∷ outs) (suc k) c
+        → IsAssured es outs k c
+    later_read e es out outs k c read = by_later e es out outs k read.later c read refl
 
 -- the words of a copy that are sure tell what they told
 pub tied_sure : (m : Machine) (log : List Edge) (i : ℕ) → IsTied m log → AreSure m log i

@@ -54,15 +54,21 @@ pub record IsFrontRead (events : List Event) (answers : List Out) (k front : ℕ
   pub reads : ReadsFront event.act
   pub answer : get_elem? answers k ≡ some (Number front)
 
--- the party i read the word of p ahead of its turn as event k, and found x there; later a front was read that is at or below p
-pub record IsAssured (events : List Event) (answers : List Out) (k i p x : ℕ) : Type 0 where
-  pub event : get_elem? events k ≡ some (record { party = i; act = LoadTentative p })
-  pub answer : get_elem? answers k ≡ some (Word x)
+-- a word that a party read ahead of its turn: whose, at which position, and what was found there
+pub record Copy : Type 0 where
+  pub party : ℕ
+  pub at : ℕ
+  pub word : ℕ
+
+-- a word was read ahead of its turn as event k; later a front was read that is at or below its position
+pub record IsAssured (events : List Event) (answers : List Out) (k : ℕ) (c : Copy) : Type 0 where
+  pub event : get_elem? events k ≡ some (record { party = c.party; act = LoadTentative c.at })
+  pub answer : get_elem? answers k ≡ some (Word c.word)
   pub later : ℕ
   pub after : k < later
   pub front : ℕ
   pub read : IsFrontRead events answers later front
-  pub up_to : front ≤ p
+  pub up_to : front ≤ c.at
 
 -- right before event k, the party i had seen no further than p
 pub record IsUnseen (start : Machine) (events : List Event) (answers : List Out) (k i p : ℕ) : Type 0 where
@@ -70,10 +76,10 @@ pub record IsUnseen (start : Machine) (events : List Event) (answers : List Out)
   pub run : Run start (take k events) (take k answers) machine
   pub unseen : (party_at machine i).view.seen ≤ p
 
--- a word x that was read ahead of its turn is the log's entry at p where it is matched, and else p had not been seen
-pub record IsCopied (start : Machine) (events : List Event) (answers : List Out) (log : List Edge) (k i p x : ℕ) : Type 0 where
-  pub matched : is_matched start.frame.slots p x ≡ true → get_elem? log p ≡ some (decode x)
-  pub unmatched : is_matched start.frame.slots p x ≡ false → IsUnseen start events answers k i p
+-- a word that was read ahead of its turn is the log's entry there where it is matched, and else its position had not been seen
+pub record IsCopied (start : Machine) (events : List Event) (answers : List Out) (log : List Edge) (k : ℕ) (c : Copy) : Type 0 where
+  pub matched : is_matched start.frame.slots c.at c.word ≡ true → get_elem? log c.at ≡ some (decode c.word)
+  pub unmatched : is_matched start.frame.slots c.at c.word ≡ false → IsUnseen start events answers k c.party c.at
 
 -- each word of a party's present copy that is sure is the log's, or its position lies at or past what was noted as the copy began
 abbrev pub AreSure : Machine → List Edge → ℕ → Type 0

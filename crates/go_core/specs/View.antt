@@ -130,21 +130,13 @@ raising why v = record v { disk_raised = v.disk_raised || (why == 1); memory_rai
 abbrev pub abandoning : Entry → View → View
 abandoning x v = record v { pending = without x.at v.pending; abandoned = v.abandoned ++ x ∷ []; fresh = false }
 
+-- a view without entries and without a copy
+abbrev pub emptied : View → View
+emptied v = record v { pending = []; abandoned = []; own = []; joined = []; loads = [] }
+
 -- what a new party has, which is split off: what the old one has seen, taken and known
 abbrev pub split_off : View → View
-split_off v =
-    record v {
-      archives = false;
-      flushes = false;
-      disk_raised = false;
-      memory_raised = false;
-      pending = [];
-      abandoned = [];
-      own = [];
-      joined = [];
-      loads = [];
-      fresh = false;
-    }
+split_off v = record (emptied v) { archives = false; flushes = false; disk_raised = false; memory_raised = false; fresh = false }
 
 -- after a split by which who moves both fronts gives the durable one away
 abbrev pub sharing_out : View → View
@@ -154,14 +146,20 @@ sharing_out v = record v { flushes = v.flushes && not v.archives; fresh = false 
 abbrev pub shared_off : View → View
 shared_off v = record (split_off v) { flushes = v.flushes && v.archives }
 
--- after another party was joined in, whose entries stay lists of their own
-abbrev pub joining : View → View → View
-joining v other =
+-- knowing of the log what another party knows too
+abbrev pub knowing_both : View → View → View
+knowing_both v other =
     record v {
       seen = max v.seen other.seen;
       head = max v.head other.head;
       archived = max v.archived other.archived;
       durable = max v.durable other.durable;
+    }
+
+-- after another party was joined in, whose entries stay lists of their own
+abbrev pub joining : View → View → View
+joining v other =
+    record (knowing_both v other) {
       disk_raised = v.disk_raised || other.disk_raised;
       memory_raised = v.memory_raised || other.memory_raised;
       abandoned = v.abandoned ++ other.abandoned;

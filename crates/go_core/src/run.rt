@@ -28,6 +28,7 @@ ghost use Rattle.go_core.specs.History.{
   HasTaken,
   IsAssured,
   IsCopied,
+  Copy,
   AreSure,
 };
 
@@ -58,10 +59,10 @@ pub fn replay(core: &mut Core, events: &[Event], outs: &mut Vec<Out>) -> Result<
 
     // A word that was read ahead of its turn, before a front at or below its position was read, is the
     // log's entry there where it is matched, and else its position had not been seen.
-    ensures copied { (log : List Edge) → IsTied core.old log → (k i p x : ℕ) →
-        IsAssured events.now (drop (vec_len outs.old) outs.new.items) k i p x →
+    ensures copied { (log : List Edge) → IsTied core.old log → (k : ℕ) (c : Copy) →
+        IsAssured events.now (drop (vec_len outs.old) outs.new.items) k c →
         IsCopied core.old events.now (drop (vec_len outs.old) outs.new.items)
-        (log ++ all_claims events.now (drop (vec_len outs.old) outs.new.items)) k i p x }
+        (log ++ all_claims events.now (drop (vec_len outs.old) outs.new.items)) k c }
     ensures sure { (log : List Edge) → IsTied core.old log → (i : ℕ) →
         AreSure core.new (log ++ all_claims events.now (drop (vec_len outs.old) outs.new.items)) i }
 
