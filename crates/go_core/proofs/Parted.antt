@@ -220,7 +220,8 @@ archived_parted m i front log live some' onward stood are =
     party_parted m i (archiving front (party_at m i).view) words' log log live
     (λ part. turn_other part m.words 1 front (λ e. omega arith) (λ e. omega arith)) (omega arith) (λ p within. omega arith) (λ role. (role, omega arith))
     (parts_moved (λ (s : PartState). s) Reaches m.frame log m.words words' (views_of m.parties) (states_of m.parts) (omega arith)
-    (λ place part there shard. subst (λ (s : PartState). archived_in words' ≤ s.front) (shard_only m.frame m.parts place part are.two there shard) (omega arith))
+    (λ place part there shard. subst (λ (s : PartState). archived_in words' ≤ s.front) (shard_only m.frame m.parts place part are.two there shard)
+    (omega arith))
     (λ place part there file. subst (λ n. n ≤ part.front) (sym durable) (are.parts.file place part there file)) are.parts) are
 
 -- the durable front was stored, over what the party knows the file to have

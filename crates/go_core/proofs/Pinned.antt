@@ -145,7 +145,8 @@ module _ {S : Type 0} (pins put : S → List Pin) (has : S → Bool) where
         record {
           pinned = λ free q e inside.
               (let pin = get_or (pins t) q e in
-              let ne : k ≢ i = λ same. both_ways (has t) free (ap has (lookup-same parties i t s (sym (ap (get_elem? parties) same) ∙ other) by.there) ∙ by.mine) in
+              let ne : k ≢ i = λ same. both_ways (has t) free (ap has (lookup-same parties i t s (sym (ap (get_elem? parties) same) ∙ other) by.there) ∙
+              by.mine) in
               let held : Contains old.pins pin = (by.are.each k d within).pinned free q e inside in
               let named : has_name pin.id (pins t) ≡ true = has-in (pins t) pin (Contains-get_or (pins t) q e inside) in
               let not' : owns_name pin.id (pins s) (put s) ≡ false = not_mine k t pin.id ne other
