@@ -1,5 +1,5 @@
 -- A step on no turn and on no slot of the table: what it keeps of the tie of words and views, it keeps of the whole rule.
-use Rattle.std.proofs.Common.{◌≡◌, ℕ, ◌+◌, ◌<◌, ◌≤◌, false, List, [], ◌++◌, map, length, set, sym, refl, ap, ◌∙◌, ⊎_elim, arith, subst}
+use Rattle.std.proofs.Common.{◌≡◌, true, ℕ, ◌+◌, ◌<◌, ◌≤◌, false, List, [], ◌++◌, map, length, set, sym, refl, ap, ◌∙◌, ⊎_elim, arith, subst}
 use Rattle.std.specs.Prelude.{All, Contains, Some, slice_get, slice_index, sum_by, find, filter, is_some, ◌==◌, Option as Maybe}
 use Rattle.std.proofs.lemmas.List.{map-set, length-append, take-append-le}
 use Rattle.std.proofs.lemmas.List.Elements.{All-append, All-weaker}
@@ -16,7 +16,7 @@ use Rattle.go_core.proofs.Totals.{total-set}
 use Rattle.go_core.proofs.Lookups.{lookup-set}
 use Rattle.go_core.proofs.Moved.{within_log}
 use Rattle.go_core.proofs.Claims.{All-lookup}
-use Rattle.go_core.proofs.PartLaws.{parts_onward, parts_archived, parts_durable}
+use Rattle.go_core.proofs.PartLaws.{parts_onward, parts_moved}
 use Rattle.go_core.proofs.Parted.{GoesOn, reached_set}
 use Rattle.go_core.proofs.TurnLaws.{turn_same}
 use Rattle.go_core.proofs.Pinned.{pinned_set}
@@ -50,6 +50,13 @@ told_onward log more words words' seen told up within t =
       passed = omega arith;
       raised = λ is. up.flag (t.raised is);
     }
+
+-- a log and parts rule the state of a table, and a live seat of it has this view
+pub record IsRuledSeat {P : Type 0} (m : Meaning P) (key : Key P) (s : State (Maybe P) (SeatView P)) (log : List Edge) (parts : List P) (i : ℕ)
+    (d : SeatView P) : Type 0 where
+  pub by : IsRuledBy m key s log parts
+  pub there : get_elem? s.views i ≡ some d
+  pub live : d.core.live ≡ true
 
 module _ {P : Type 0} (m : Meaning P) (laws : IsLasting m) (key : Key P) where
   -- what the rule says of a seat lasts
@@ -142,15 +149,10 @@ module _ {P : Type 0} (m : Meaning P) (laws : IsLasting m) (key : Key P) where
           held = record {
             count = by.held.count;
             fits = by.held.fits;
-            of = parts_durable m.state_of (StandsFrom m key) (frame_of key) (log
-                ++ more) (archived_in words') (durable_in s.words) (durable_in words') (cores views')
-                parts b.fronts.file
-                (parts_archived m.state_of (StandsFrom m key) (frame_of key) (log
-                ++ more) (archived_in s.words) (archived_in words') (durable_in s.words) (cores views')
-                parts rises.archived b.fronts.shards
-                (parts_onward m.state_of (StandsFrom m key) (frame_of key) log (log
-                ++ more) (archived_in s.words) (durable_in s.words) (cores s.views) (cores views')
-                parts stands written reached by.held.of));
+            of = parts_moved m.state_of (StandsFrom m key) (frame_of key) (log ++ more) s.words words' (cores views') parts rises.archived b.fronts.shards
+                b.fronts.file
+                (parts_onward m.state_of (StandsFrom m key) (frame_of key) log (log ++ more) s.words (cores s.views) (cores views') parts stands written
+                reached by.held.of);
             own = by.held.own;
             kept = b.fronts.kept;
           };
@@ -197,16 +199,17 @@ module _ {P : Type 0} (m : Meaning P) (laws : IsLasting m) (key : Key P) where
         place_within : (place : ℕ) (part : P) → slice_get parts place ≡ Some part → place ≤ key.layout.shards
         place_within place part at_place = let count = by.held.count in let less = get_within parts place part at_place in omega arith
 
--- a step is allowed that finds, whatever state the table is in, a view and more of the log that keep it ruled
-pub allowed : {P : Type 0} (m : Meaning P) (laws : IsLasting m) (key : Key P) (slots id : ℕ) (me : Me (Maybe P) (SeatView P)) (k : ℕ) (f : ℕ → ℕ)
-    (then : ℕ → Me (Maybe P) (SeatView P) → Type 0)
-    → ((s : State (Maybe P) (SeatView P)) (log : List Edge) (parts : List P) (by : IsRuledBy m key s log parts) (there : get_elem? s.views id ≡ some me.0)
+-- a step of a live seat is allowed that finds, whatever state the table is in, a view and more of the log that keep it ruled
+pub allowed : {P : Type 0} (m : Meaning P) (laws : IsLasting m) (key : Key P) (slots id : ℕ) (me : Me (Maybe P) (SeatView P)) (live : me.0.core.live ≡ true)
+    (k : ℕ) (f : ℕ → ℕ) (then : ℕ → Me (Maybe P) (SeatView P) → Type 0)
+    → ((s : State (Maybe P) (SeatView P)) (log : List Edge) (parts : List P) (ruled : IsRuledSeat m key s log parts id me.0)
     → slice_index s.words k < 18446744073709551616
-    → (w : SeatView P) × (more : List Edge) × Beside m laws key s log parts by id me.0 there w (set s.words k (f (slice_index s.words k))) more
+    → (w : SeatView P) × (more : List Edge)
+    × Beside m laws key s log parts ruled.by id me.0 ruled.there w (set s.words k (f (slice_index s.words k))) more
     × then (slice_index s.words k) (w, me.1))
     → Allows (IsRuled m key) slots id me k f then
-allowed m laws key slots id me k f then step s holds many there small =
-    let found = step s holds.log holds.parts holds.by there small in
+allowed m laws key slots id me live k f then step s holds many there small =
+    let found = step s holds.log holds.parts (record { by = holds.by; there = there; live = live }) small in
     let now : IsRuled m key (record { words = set s.words k (f (slice_index s.words k)); homes = s.homes; views = set s.views id found.0 }) =
     record {
       log = holds.log ++ found.1;

@@ -26,27 +26,26 @@ use Rattle.go_rule.specs.declared.view.PlacedPin.{PlacedPin}
 use Rattle.go_rule.specs.declared.view.SeatView.{SeatView}
 use Rattle.go_rule.specs.Meaning.{Meaning, IsLasting}
 use Rattle.go_rule.specs.Views.{frame_of, with_head, with_archived, with_durable, with_ending, with_ahead}
-use Rattle.go_rule.specs.Rule.{IsBelow, cores, pins_at, IsRuledBy, IsRuled}
+use Rattle.go_rule.specs.Rule.{IsBelow, cores, pins_at, IsRuled}
 use Rattle.go_rule.specs.Steps.{SeesOn, FrontIs, IsRead, LoadsHead, LoadsArchived, LoadsDurable, LoadsEnding, LoadsAhead, CanEnd}
 use Rattle.go_rule.proofs.Lists.{lookup_take, get_there, all_places}
-use Rattle.go_rule.proofs.Beside.{core_there, allowed}
+use Rattle.go_rule.proofs.Beside.{IsRuledSeat, core_there, allowed}
 use Rattle.go_rule.proofs.Alone.{whole_log}
 use Rattle.go_rule.proofs.Renewals.{sees_on, read_beside, old_kept, told_now, told_to, seen_window, numbers_to, log_small}
 
 module _ {P : Type 0} (m : Meaning P) (laws : IsLasting m) (key : Key P) where
-  module _ (s : State (Maybe P) (SeatView P)) (log : List Edge) (parts : List P) (by : IsRuledBy m key s log parts) (i : ℕ) (d : SeatView P)
-      (there : get_elem? s.views i ≡ some d) (live : d.core.live ≡ true) where
+  module _ (s : State (Maybe P) (SeatView P)) (log : List Edge) (parts : List P) (i : ℕ) (d : SeatView P) (ruled : IsRuledSeat m key s log parts i d) where
     -- a front that is read, at or past what is released and within the log
     front_is : (known n : ℕ) → known ≤ n → released s.words ≤ n → n ≤ length log → FrontIs (frame_of key) known d n
     front_is known n low above to =
-        let passed = (told_now m laws key s log parts by i d there live).passed in
-        let window = seen_window m laws key s log parts by i d there live in
+        let passed = (told_now m laws key s log parts i d ruled).passed in
+        let window = seen_window m laws key s log parts i d ruled in
         record {
           known_to = low;
           passed_to = omega arith;
           window = omega arith;
-          small = let few = log_small m laws key s log parts by i d there live in omega arith;
-          whole = λ whole. let all = whole_log m laws key s log parts by i d there whole in omega arith;
+          small = let few = log_small m laws key s log parts i d ruled in omega arith;
+          whole = λ whole. let all = whole_log m laws key s log parts ruled.by i d ruled.there whole in omega arith;
         }
 
     -- no pin of the seat is past the archived front
@@ -57,12 +56,12 @@ module _ {P : Type 0} (m : Meaning P) (laws : IsLasting m) (key : Key P) where
         (λ at.
         All-weaker (Contains (pins_at at d)) (λ (pin : Pin). IsShardPlace (frame_of key) at → pin.front ≤ archived_in s.words)
         (λ pin inside shard.
-        let count = by.held.count in
+        let count = ruled.by.held.count in
         let found = get_there parts at (omega arith) in
         let held = (m.state_of found.0).pins in
         let one : IsPinnedBy (pins_at at) (λ z. []) (λ z. false) held d =
-        All-lookup (IsPinnedBy (pins_at at) (λ z. []) (λ z. false) held) s.views i d (by.pinned at found.0 found.1 shard).each there in
-        All-contains (λ (x : Pin). x.front ≤ archived_in s.words) held pin (by.held.of.shards at found.0 found.1 shard).pins_to
+        All-lookup (IsPinnedBy (pins_at at) (λ z. []) (λ z. false) held) s.views i d (ruled.by.pinned at found.0 found.1 shard).each ruled.there in
+        All-contains (λ (x : Pin). x.front ≤ archived_in s.words) held pin (ruled.by.held.of.shards at found.0 found.1 shard).pins_to
         (All-contains (Contains held) (pins_at at d) pin (one.pinned refl) inside))
         (pins_at at d) (All-contains_itself (pins_at at d)))
 
@@ -71,13 +70,13 @@ module _ {P : Type 0} (m : Meaning P) (laws : IsLasting m) (key : Key P) where
     cuts_to =
         All-weaker (λ (x : Note P). slice_get parts x.place ≡ Some x.part)
         (λ (x : Note P). IsShardPlace (frame_of key) x.place → (m.state_of x.part).cut ≤ archived_in s.words)
-        (λ x at_place shard. (by.held.of.shards x.place x.part at_place shard).cut_to) d.stake.notes (by.seats i d there).noted
+        (λ x at_place shard. (ruled.by.held.of.shards x.place x.part at_place shard).cut_to) d.stake.notes (ruled.by.seats i d ruled.there).noted
 
     -- the words of its copy, by a front that is at or past what is released and a log that is seen so far
     words_read : (n k : ℕ) → released s.words ≤ n → k ≤ length log → All (IsRead key.layout.ring d.about.vertices (take k log) n) d.core.loads
     words_read n k above within =
-        let core = by.tied.seated i d.core (core_there m laws key s log parts by i d there) in
-        let about = ap (λ a. a.vertices) ((by.seats i d there).about live) in
+        let core = ruled.by.tied.seated i d.core (core_there m laws key s log parts ruled.by i d ruled.there) in
+        let about = ap (λ a. a.vertices) ((ruled.by.seats i d ruled.there).about ruled.live) in
         All-weaker (IsSound (frame_of key) log s.words (cores s.views) d.core.marked) (IsRead key.layout.ring d.about.vertices (take k log) n)
         (λ l sound after matched seen.
         ⊎_elim
@@ -92,7 +91,7 @@ module _ {P : Type 0} (m : Meaning P) (laws : IsLasting m) (key : Key P) where
           edge = is.0;
           there = lookup_take k log l.at is.0 (omega arith) is.1;
           is = is.2;
-          below = subst (λ v. IsBelow v is.0) (sym about) (All-lookup (IsBelow key.layout.vertices) log l.at is.0 by.logged.below is.1);
+          below = subst (λ v. IsBelow v is.0) (sym about) (All-lookup (IsBelow key.layout.vertices) log l.at is.0 ruled.by.logged.below is.1);
         })
         (λ ahead. absurd (both_ways (is_matched key.layout.ring l.at l.word) ahead.0 matched)) tells) sound)
         d.core.loads core.reads
@@ -100,29 +99,29 @@ module _ {P : Type 0} (m : Meaning P) (laws : IsLasting m) (key : Key P) where
   module _ (slots id : ℕ) (me : Me (Maybe P) (SeatView P)) (live : me.0.core.live ≡ true) (step : Step (Maybe P)) where
     pub head_allowed : Allows (IsRuled m key) slots id me 0 (λ n. n) (LoadsHead (frame_of key) step me)
     head_allowed =
-        allowed m laws key slots id me 0 (λ n. n) (LoadsHead (frame_of key) step me)
-        (λ s log parts by there small.
+        allowed m laws key slots id me live 0 (λ n. n) (LoadsHead (frame_of key) step me)
+        (λ s log parts ruled small.
         let d = me.0 in
         let n = head_in s.words in
-        let core = core_there m laws key s log parts by id d there in
-        let to = numbers_to m laws key s log parts by id d there live in
-        let archived = by.tied.ringed.archived.to in
-        let durable = by.tied.ringed.durable.to in
-        let head = by.tied.ringed.shape.head in
+        let core = core_there m laws key s log parts ruled.by id d ruled.there in
+        let to = numbers_to m laws key s log parts id d ruled in
+        let archived = ruled.by.tied.ringed.archived.to in
+        let durable = ruled.by.tied.ringed.durable.to in
+        let head = ruled.by.tied.ringed.shape.head in
         let known = to.0 in
         let seen = to.1 in
         let one = to.2 in
         let two = to.3 in (
           with_head n d,
           [],
-          read_beside m laws key s log parts by id d there live 0 (knowing_head n d.core) d.told
+          read_beside m laws key s log parts id d ruled 0 (knowing_head n d.core) d.told
               (record {
                 lives = live;
-                tied = head_loaded (frame_of key) log s.words (cores s.views) id d.core core live by.tied;
+                tied = head_loaded (frame_of key) log s.words (cores s.views) id d.core core live ruled.by.tied;
                 less = λ p. omega arith;
                 goes_on = λ role. (role, omega arith);
-                told = told_now m laws key s log parts by id d there live;
-                kept = old_kept m laws key s log parts by id d there live;
+                told = told_now m laws key s log parts id d ruled;
+                kept = old_kept m laws key s log parts id d ruled;
               }),
           record {
             becomes = refl;
@@ -130,127 +129,127 @@ module _ {P : Type 0} (m : Meaning P) (laws : IsLasting m) (key : Key P) where
             seen = omega arith;
             archived = omega arith;
             durable = omega arith;
-            small = let few = log_small m laws key s log parts by id d there live in omega arith;
-            whole = λ whole. let all = whole_log m laws key s log parts by id d there whole in omega arith;
+            small = let few = log_small m laws key s log parts id d ruled in omega arith;
+            whole = λ whole. let all = whole_log m laws key s log parts ruled.by id d ruled.there whole in omega arith;
           },
         ))
 
     pub archived_allowed : Allows (IsRuled m key) slots id me 1 (λ n. n) (LoadsArchived m.state_of (frame_of key) step me)
     archived_allowed =
-        allowed m laws key slots id me 1 (λ n. n) (LoadsArchived m.state_of (frame_of key) step me)
-        (λ s log parts by there small.
+        allowed m laws key slots id me live 1 (λ n. n) (LoadsArchived m.state_of (frame_of key) step me)
+        (λ s log parts ruled small.
         let d = me.0 in
         let n = archived_in s.words in
-        let core = core_there m laws key s log parts by id d there in
-        let to = numbers_to m laws key s log parts by id d there live in
-        let up : n ≤ length log = by.tied.ringed.archived.to in (
+        let core = core_there m laws key s log parts ruled.by id d ruled.there in
+        let to = numbers_to m laws key s log parts id d ruled in
+        let up : n ≤ length log = ruled.by.tied.ringed.archived.to in (
           with_archived n (take (max d.core.seen n) log) d,
           [],
-          read_beside m laws key s log parts by id d there live 1 (knowing_archived n d.core) (record d.told { seen = take (max d.core.seen n) log })
+          read_beside m laws key s log parts id d ruled 1 (knowing_archived n d.core) (record d.told { seen = take (max d.core.seen n) log })
               (record {
                 lives = live;
-                tied = archived_loaded (frame_of key) log s.words (cores s.views) id d.core core live by.tied;
+                tied = archived_loaded (frame_of key) log s.words (cores s.views) id d.core core live ruled.by.tied;
                 less = λ p. omega arith;
                 goes_on = λ role. (role, omega arith);
-                told = told_to m laws key s log parts by id d there live (max d.core.seen n);
-                kept = λ place part at_place shard cut. by.held.kept place part at_place shard;
+                told = told_to m laws key s log parts id d ruled (max d.core.seen n);
+                kept = λ place part at_place shard cut. ruled.by.held.kept place part at_place shard;
               }),
           record {
             seen = take (max d.core.seen n) log;
             becomes = refl;
-            sees = sees_on log d.told.seen d.core.seen n (told_now m laws key s log parts by id d there live).seen_is to.1 up;
-            front = front_is s log parts by id d there live d.core.archived n to.2 (omega arith) up;
-            pins = pins_to s log parts by id d there live;
-            cuts = cuts_to s log parts by id d there live;
+            sees = sees_on log d.told.seen d.core.seen n (told_now m laws key s log parts id d ruled).seen_is to.1 up;
+            front = front_is s log parts id d ruled d.core.archived n to.2 (omega arith) up;
+            pins = pins_to s log parts id d ruled;
+            cuts = cuts_to s log parts id d ruled;
           },
         ))
 
     pub durable_allowed : Allows (IsRuled m key) slots id me 2 (λ n. n) (LoadsDurable (frame_of key) step me)
     durable_allowed =
-        allowed m laws key slots id me 2 (λ n. n) (LoadsDurable (frame_of key) step me)
-        (λ s log parts by there small.
+        allowed m laws key slots id me live 2 (λ n. n) (LoadsDurable (frame_of key) step me)
+        (λ s log parts ruled small.
         let d = me.0 in
         let n = durable_in s.words in
-        let core = core_there m laws key s log parts by id d there in
-        let to = numbers_to m laws key s log parts by id d there live in
-        let up : n ≤ length log = by.tied.ringed.durable.to in (
+        let core = core_there m laws key s log parts ruled.by id d ruled.there in
+        let to = numbers_to m laws key s log parts id d ruled in
+        let up : n ≤ length log = ruled.by.tied.ringed.durable.to in (
           with_durable n (take (max d.core.seen n) log) d,
           [],
-          read_beside m laws key s log parts by id d there live 2 (knowing_durable n d.core) (record d.told { seen = take (max d.core.seen n) log })
+          read_beside m laws key s log parts id d ruled 2 (knowing_durable n d.core) (record d.told { seen = take (max d.core.seen n) log })
               (record {
                 lives = live;
-                tied = durable_loaded (frame_of key) log s.words (cores s.views) id d.core core live by.tied;
+                tied = durable_loaded (frame_of key) log s.words (cores s.views) id d.core core live ruled.by.tied;
                 less = λ p. omega arith;
                 goes_on = λ role. (role, omega arith);
-                told = told_to m laws key s log parts by id d there live (max d.core.seen n);
-                kept = old_kept m laws key s log parts by id d there live;
+                told = told_to m laws key s log parts id d ruled (max d.core.seen n);
+                kept = old_kept m laws key s log parts id d ruled;
               }),
           record {
             seen = take (max d.core.seen n) log;
             becomes = refl;
-            sees = sees_on log d.told.seen d.core.seen n (told_now m laws key s log parts by id d there live).seen_is to.1 up;
-            front = front_is s log parts by id d there live d.core.durable n to.3 (omega arith) up;
+            sees = sees_on log d.told.seen d.core.seen n (told_now m laws key s log parts id d ruled).seen_is to.1 up;
+            front = front_is s log parts id d ruled d.core.durable n to.3 (omega arith) up;
           },
         ))
 
     pub ending_allowed : (end : ℕ) → CanEnd key.layout.ring me.0 end →
         Allows (IsRuled m key) slots id me 2 (λ n. n) (LoadsEnding (frame_of key) end step me)
     ending_allowed end can =
-        allowed m laws key slots id me 2 (λ n. n) (LoadsEnding (frame_of key) end step me)
-        (λ s log parts by there small.
+        allowed m laws key slots id me live 2 (λ n. n) (LoadsEnding (frame_of key) end step me)
+        (λ s log parts ruled small.
         let d = me.0 in
         let n = durable_in s.words in
         let k = max (max d.core.seen n) end in
-        let core = core_there m laws key s log parts by id d there in
-        let to = numbers_to m laws key s log parts by id d there live in
+        let core = core_there m laws key s log parts ruled.by id d ruled.there in
+        let to = numbers_to m laws key s log parts id d ruled in
         let written : (p : ℕ) → p < end → IsWritten log (cores s.views) p =
-        copied_written (frame_of key) log s.words (cores s.views) id d.core core by.tied end can in
+        copied_written (frame_of key) log s.words (cores s.views) id d.core core ruled.by.tied end can in
         let last : end ≤ length log = within_log log (cores s.views) end written in
-        let up : n ≤ length log = by.tied.ringed.durable.to in
+        let up : n ≤ length log = ruled.by.tied.ringed.durable.to in
         let seen : d.core.seen ≤ length log = to.1 in
         let same : max d.core.seen (max n end) ≡ k = omega arith in (
           with_ending n end (take k log) d,
           [],
-          read_beside m laws key s log parts by id d there live 2 (ending n end d.core) (record d.told { seen = take k log })
+          read_beside m laws key s log parts id d ruled 2 (ending n end d.core) (record d.told { seen = take k log })
               (record {
                 lives = live;
-                tied = durable_ended (frame_of key) log s.words (cores s.views) id d.core end core live written by.tied;
+                tied = durable_ended (frame_of key) log s.words (cores s.views) id d.core end core live written ruled.by.tied;
                 less = λ p. omega arith;
                 goes_on = λ role. (role, omega arith);
-                told = told_to m laws key s log parts by id d there live k;
-                kept = old_kept m laws key s log parts by id d there live;
+                told = told_to m laws key s log parts id d ruled k;
+                kept = old_kept m laws key s log parts id d ruled;
               }),
           record {
             seen = take k log;
             becomes = refl;
             sees = subst (λ j. SeesOn d.told.seen (take j log) d.core.seen (max n end)) same
-                (sees_on log d.told.seen d.core.seen (max n end) (told_now m laws key s log parts by id d there live).seen_is seen (omega arith));
-            front = front_is s log parts by id d there live d.core.durable n to.3 (omega arith) up;
-            words = words_read s log parts by id d there live n k (omega arith) (omega arith);
+                (sees_on log d.told.seen d.core.seen (max n end) (told_now m laws key s log parts id d ruled).seen_is seen (omega arith));
+            front = front_is s log parts id d ruled d.core.durable n to.3 (omega arith) up;
+            words = words_read s log parts id d ruled n k (omega arith) (omega arith);
           },
         ))
 
     pub ahead_allowed : (p : ℕ) → CanReadAhead key.layout.ring me.0.core p →
         Allows (IsRuled m key) slots id me (place (frame_of key) p) (λ n. n) (LoadsAhead key.layout.ring p step me)
     ahead_allowed p can =
-        allowed m laws key slots id me (place (frame_of key) p) (λ n. n) (LoadsAhead key.layout.ring p step me)
-        (λ s log parts by there small.
+        allowed m laws key slots id me live (place (frame_of key) p) (λ n. n) (LoadsAhead key.layout.ring p step me)
+        (λ s log parts ruled small.
         let d = me.0 in
         let k = place (frame_of key) p in
         let word = slot (frame_of key) s.words p in
         let now = released s.words in
-        let core = core_there m laws key s log parts by id d there in
-        let told = told_now m laws key s log parts by id d there live in (
+        let core = core_there m laws key s log parts ruled.by id d ruled.there in
+        let told = told_now m laws key s log parts id d ruled in (
           with_ahead p word now d,
           [],
-          read_beside m laws key s log parts by id d there live k (read_ahead p word d.core) (record d.told { passed = now })
+          read_beside m laws key s log parts id d ruled k (read_ahead p word d.core) (record d.told { passed = now })
               (record {
                 lives = live;
-                tied = tentative_loaded (frame_of key) log s.words (cores s.views) id d.core p core live can by.tied;
+                tied = tentative_loaded (frame_of key) log s.words (cores s.views) id d.core p core live can ruled.by.tied;
                 less = λ q. omega arith;
                 goes_on = λ role. (role, omega arith);
                 told = record { seen_is = told.seen_is; heard = told.heard; passed = omega arith; raised = told.raised };
-                kept = old_kept m laws key s log parts by id d there live;
+                kept = old_kept m laws key s log parts id d ruled;
               }),
           record {
             released = now;
@@ -260,6 +259,6 @@ module _ {P : Type 0} (m : Meaning P) (laws : IsLasting m) (key : Key P) where
                 ⊎_elim (λ (less : p < now). less)
                 (λ (from : now ≤ p).
                 absurd (both_ways (is_matched key.layout.ring p word) unmatched
-                (seen_matched (frame_of key) log s.words (cores s.views) id d.core core by.tied p seen from))) (cases_lt p now);
+                (seen_matched (frame_of key) log s.words (cores s.views) id d.core core ruled.by.tied p seen from))) (cases_lt p now);
           },
         ))

@@ -142,9 +142,8 @@ module _ {P : Type 0} (m : Meaning P) (laws : IsLasting m) (key : Key P) where
           pinned = λ place part at_place shard.
               (let held = (m.state_of part).pins in
               let old = by.pinned place part at_place shard in
-              let Q = IsPinnedBy (pins_at place) (λ (z : SeatView P). []) (λ z. false) held in
-              pinned_joined (pins_at place) (λ z. []) (λ z. false) held s.views i j d e both spent_view ne there other (All-lookup Q s.views i d old.each there)
-              (All-lookup Q s.views j e old.each other) refl refl (pins_both place) refl refl refl old);
+              pinned_joined (pins_at place) (λ z. []) (λ z. false) held s.views i j d e both spent_view (record { ne = ne; there = there; other = other })
+              (record { free = refl; turn = refl; all_pins = pins_both place; as_put = refl; none = refl; none_put = refl }) old);
         }
       where
         pins_both : (place : ℕ) → pins_at place (joining_seat d e) ≡ pins_at place d ++ pins_at place e

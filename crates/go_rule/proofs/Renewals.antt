@@ -21,9 +21,9 @@ use Rattle.go_rule.specs.declared.view.Told.{Told}
 use Rattle.go_rule.specs.declared.view.SeatView.{SeatView}
 use Rattle.go_rule.specs.Meaning.{Meaning, IsLasting}
 use Rattle.go_rule.specs.Views.{frame_of}
-use Rattle.go_rule.specs.Rule.{IsBelow, cores, IsTold, IsSeat, IsRuledBy}
+use Rattle.go_rule.specs.Rule.{IsBelow, cores, IsTold, IsSeat}
 use Rattle.go_rule.specs.Steps.{SeesOn}
-use Rattle.go_rule.proofs.Beside.{Rises, core_there, seen_within, NewFronts, Beside}
+use Rattle.go_rule.proofs.Beside.{IsRuledSeat, Rises, core_there, seen_within, NewFronts, Beside}
 
 -- what was seen goes on
 pub sees_on : (log told : List Edge) (seen front : ℕ) → told ≡ take seen log → seen ≤ length log → front ≤ length log →
@@ -36,18 +36,17 @@ sees_on log told seen front is within to =
     }
 
 module _ {P : Type 0} (m : Meaning P) (laws : IsLasting m) (key : Key P) where
-  module _ (s : State (Maybe P) (SeatView P)) (log : List Edge) (parts : List P) (by : IsRuledBy m key s log parts) (i : ℕ) (d : SeatView P)
-      (there : get_elem? s.views i ≡ some d) (live : d.core.live ≡ true) where
+  module _ (s : State (Maybe P) (SeatView P)) (log : List Edge) (parts : List P) (i : ℕ) (d : SeatView P) (ruled : IsRuledSeat m key s log parts i d) where
     -- the fronts stand still
     pub fronts_still : (words' : List ℕ) → archived_in words' ≡ archived_in s.words → durable_in words' ≡ durable_in s.words → flag_in words' ≡ flag_in s.words
-        → NewFronts m laws key s log parts by i d there words'
+        → NewFronts m laws key s log parts ruled.by i d ruled.there words'
     fronts_still words' archived durable flag =
         record {
           rises = record { archived = omega arith; durable = omega arith; flag = λ raised. omega arith };
           shards = λ place part at_place shard. subst (λ n. n ≤ (m.state_of part).front) (sym archived)
-              (by.held.of.shards place part at_place shard).archived_to;
-          kept = λ place part at_place shard. subst (m.keeps part) (sym archived) (by.held.kept place part at_place shard);
-          file = λ place part at_place file. subst (λ n. n ≤ (m.state_of part).front) (sym durable) (by.held.of.file place part at_place file);
+              (ruled.by.held.of.shards place part at_place shard).archived_to;
+          kept = λ place part at_place shard. subst (m.keeps part) (sym archived) (ruled.by.held.kept place part at_place shard);
+          file = λ place part at_place file. subst (λ n. n ≤ (m.state_of part).front) (sym durable) (ruled.by.held.of.file place part at_place file);
         }
 
     -- each shard that isn't cut off there tells of an archived front
@@ -67,27 +66,28 @@ module _ {P : Type 0} (m : Meaning P) (laws : IsLasting m) (key : Key P) where
     -- the step keeps the rule, where no turn was written and no front rose too far
     pub renewed_beside : (core : View) (told : Told) (words' : List ℕ) → Renewed core told words'
         → ((place : ℕ) → place ≤ key.layout.shards → slice_index words' (4 + place) ≡ slice_index s.words (4 + place))
-        → NewFronts m laws key s log parts by i d there words'
-        → Beside m laws key s log parts by i d there (record d { core = core; told = told }) words' []
+        → NewFronts m laws key s log parts ruled.by i d ruled.there words'
+        → Beside m laws key s log parts ruled.by i d ruled.there (record d { core = core; told = told }) words' []
     renewed_beside core told words' r turns fronts =
         let nothing = append-nil log in
         let w : SeatView P = record d { core = core; told = told } in
-        let seat = by.seats i d there in
+        let seat = ruled.by.seats i d ruled.there in
         record {
           tied = subst (λ l. TiedBy (frame_of key) l words' (set (cores s.views) i core)) (sym nothing) r.tied;
           below = All-nil (IsBelow key.layout.vertices);
           written = λ p old.
               subst (λ l. IsWritten l (set (cores s.views) i core) p) (sym nothing)
-              (written_less log log (cores s.views) i d.core core (core_there m laws key s log parts by i d there) (omega arith) (λ q within. r.less q) p old);
+              (written_less log log (cores s.views) i d.core core (core_there m laws key s log parts ruled.by i d ruled.there) (omega arith)
+              (λ q within. r.less q) p old);
           turns = turns;
           fronts = fronts;
           goes_on = r.goes_on;
           seat = subst (λ l. IsSeat m key l words' parts w) (sym nothing)
               (record {
                 ended = λ dead. still_live core _ r.lives dead;
-                about = λ _. seat.about live;
+                about = λ _. seat.about ruled.live;
                 told = r.told;
-                lot = λ _. seat.lot live;
+                lot = λ _. seat.lot ruled.live;
                 kept = λ _. r.kept;
                 noted = seat.noted;
                 stood = seat.stood;
@@ -97,18 +97,18 @@ module _ {P : Type 0} (m : Meaning P) (laws : IsLasting m) (key : Key P) where
 
     -- a step that writes no word
     pub read_beside : (k : ℕ) (core : View) (told : Told) → Renewed core told s.words
-        → Beside m laws key s log parts by i d there (record d { core = core; told = told }) (set s.words k (slice_index s.words k)) []
+        → Beside m laws key s log parts ruled.by i d ruled.there (record d { core = core; told = told }) (set s.words k (slice_index s.words k)) []
     read_beside k core told r =
-        subst (λ ws. Beside m laws key s log parts by i d there (record d { core = core; told = told }) ws []) (sym (set-get_or s.words k 0))
+        subst (λ ws. Beside m laws key s log parts ruled.by i d ruled.there (record d { core = core; told = told }) ws []) (sym (set-get_or s.words k 0))
         (renewed_beside core told s.words r (λ place within. refl) (fronts_still s.words refl refl refl))
 
     -- the archived front that it knew, the shards tell of
     pub old_kept : Kept d.core.archived
-    old_kept = (by.seats i d there).kept live
+    old_kept = (ruled.by.seats i d ruled.there).kept ruled.live
 
     -- what it was told so far
     pub told_now : IsTold log s.words d.core.seen d.told
-    told_now = (by.seats i d there).told
+    told_now = (ruled.by.seats i d ruled.there).told
 
     -- it lasts, where no front fell and a raised flag stayed so
     pub told_on : (words' : List ℕ) → Rises s.words words' → IsTold log words' d.core.seen d.told
@@ -133,16 +133,16 @@ module _ {P : Type 0} (m : Meaning P) (laws : IsLasting m) (key : Key P) where
         ⊎_elim (λ (none : d.core.seen ≡ 0). omega arith)
         (λ some'.
         let q : ℕ = d.core.seen - 1 in
-        let sees = (by.tied.seated i d.core (core_there m laws key s log parts by i d there)).sees in
-        let inside = written_inside (frame_of key) log s.words (cores s.views) q by.tied.ringed (sees.written q (omega arith)) in
+        let sees = (ruled.by.tied.seated i d.core (core_there m laws key s log parts ruled.by i d ruled.there)).sees in
+        let inside = written_inside (frame_of key) log s.words (cores s.views) q ruled.by.tied.ringed (sees.written q (omega arith)) in
         omega arith) (cases_eq d.core.seen 0)
 
     -- the numbers of its view within the present ones
     pub numbers_to : (d.core.head ≤ length log) × (d.core.seen ≤ length log) × (d.core.archived ≤ archived_in s.words) × (d.core.durable ≤ durable_in s.words)
     numbers_to =
-        let core = by.tied.seated i d.core (core_there m laws key s log parts by i d there) in
-        (core.knows.head_to, seen_within m laws key s log parts by i d there i d there, core.knows.archived_to, core.knows.durable_to)
+        let core = ruled.by.tied.seated i d.core (core_there m laws key s log parts ruled.by i d ruled.there) in
+        (core.knows.head_to, seen_within m laws key s log parts ruled.by i d ruled.there i d ruled.there, core.knows.archived_to, core.knows.durable_to)
 
     -- positions are numbers of 32 bits
     pub log_small : length log < 2 ^ 32
-    log_small = let all = by.shared.quotas in omega arith
+    log_small = let all = ruled.by.shared.quotas in omega arith

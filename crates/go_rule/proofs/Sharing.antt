@@ -59,9 +59,8 @@ module _ {P : Type 0} (m : Meaning P) (laws : IsLasting m) (key : Key P) where
           held = record {
             count = by.held.count;
             fits = by.held.fits;
-            of = parts_onward m.state_of (StandsFrom m key) (frame_of key) log log (archived_in s.words) (durable_in s.words) (cores s.views)
-                (cores views') parts
-                (λ part old. old) r.written r.reached by.held.of;
+            of = parts_onward m.state_of (StandsFrom m key) (frame_of key) log log s.words (cores s.views) (cores views') parts (λ part old. old) r.written
+                r.reached by.held.of;
             own = by.held.own;
             kept = by.held.kept;
           };

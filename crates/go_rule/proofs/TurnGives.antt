@@ -30,15 +30,15 @@ use Rattle.go_rule.specs.Views.{frame_of, about_of}
 use Rattle.go_rule.specs.Rule.{Begins, cores, has_note, pins_at, StandsFrom, HasStood, AreHeld, IsSeat, IsFile, IsRuledBy, IsRuled}
 use Rattle.go_rule.specs.Turns.{mark_in, own_pins, owns_at, giving, CanGive, HasPart, GivesTurn}
 use Rattle.go_rule.proofs.Lists.{get_set, get_set_other, same_number, none_passes, all_both}
-use Rattle.go_rule.proofs.Beside.{core_there, seen_within}
+use Rattle.go_rule.proofs.Beside.{IsRuledSeat, core_there, seen_within}
 use Rattle.go_rule.proofs.Renewals.{sees_on}
 use Rattle.go_rule.proofs.Turning.{turn_reads, views_then, Turned, turned_keeps, seats_then}
 use Rattle.go_rule.proofs.TurnTakes.{noted_here, noted_other}
 use Rattle.go_rule.proofs.TurnPins.{pins_here, pins_else, pinned_given}
 
 module _ {P : Type 0} (m : Meaning P) (laws : IsLasting m) (key : Key P) where
-  module _ (s : State (Maybe P) (SeatView P)) (log : List Edge) (parts : List P) (by : IsRuledBy m key s log parts) (i : ℕ) (d : SeatView P)
-      (there : get_elem? s.views i ≡ some d) (live : d.core.live ≡ true) (place : ℕ) (within : place ≤ key.layout.shards) (old new : P) (older : List (Note P))
+  module _ (s : State (Maybe P) (SeatView P)) (log : List Edge) (parts : List P) (i : ℕ) (d : SeatView P) (ruled : IsRuledSeat m key s log parts i d)
+      (place : ℕ) (within : place ≤ key.layout.shards) (old new : P) (older : List (Note P))
       (noted : d.stake.notes ≡ record { place = place; part = old } ∷ older) (once : is_some (find (λ (n : Note P). n.place == place) older) ≡ false)
       (can : CanGive m (frame_of key) d place old new) where
     -- the parts, and the seat, as they are then
@@ -49,13 +49,13 @@ module _ {P : Type 0} (m : Meaning P) (laws : IsLasting m) (key : Key P) where
     seat_given = giving (record { place = place; part = old }) older (m.state_of old) (m.state_of new) d
 
     about_given : d.about ≡ about_of (m.mark_of key.file.value) key
-    about_given = (by.seats i d there).about live
+    about_given = (ruled.by.seats i d ruled.there).about ruled.live
 
     -- what was taken stands in the list of parts
     old_there : slice_get parts place ≡ Some old
     old_there =
         All-head (λ (n : Note P). slice_get parts n.place ≡ Some n.part) (record { place = place; part = old }) older
-        (subst (All (λ (n : Note P). slice_get parts n.place ≡ Some n.part)) noted (by.seats i d there).noted)
+        (subst (All (λ (n : Note P). slice_get parts n.place ≡ Some n.part)) noted (ruled.by.seats i d ruled.there).noted)
 
     has_it : has_note place d ≡ true
     has_it = ap (λ ns. is_some (find (λ (n : Note P). n.place == place) ns)) noted ∙ noted_here place old older
@@ -70,33 +70,41 @@ module _ {P : Type 0} (m : Meaning P) (laws : IsLasting m) (key : Key P) where
     -- all that the seat has seen begins the log
     seen_begins : Begins log d.told.seen
     seen_begins =
-        let told = (by.seats i d there).told.seen_is in
-        told ∙ ap (λ n. take n log) (sym (ap length told ∙ length-take-le d.core.seen log (seen_within m laws key s log parts by i d there i d there)))
+        let told = (ruled.by.seats i d ruled.there).told.seen_is in
+        told ∙ ap (λ n. take n log) (sym (ap length told ∙ length-take-le d.core.seen log (seen_within m laws key s log parts ruled.by i d ruled.there i d
+        ruled.there)))
 
     stands_given : StandsFrom m key new log
     stands_given =
         subst (λ (a : About). m.stands_for new a.first log) about_given
         (can.stands log seen_begins
-        (subst (λ (a : About). m.stands_for old a.first log) (sym about_given) (by.held.of.of_log place old old_there).stands))
+        (subst (λ (a : About). m.stands_for old a.first log) (sym about_given) (ruled.by.held.of.of_log place old old_there).stands))
 
     seen_written : (p : ℕ) → p < d.core.seen → IsWritten log (cores s.views) p
-    seen_written = (by.tied.seated i d.core (core_there m laws key s log parts by i d there)).sees.written
+    seen_written = (ruled.by.tied.seated i d.core (core_there m laws key s log parts ruled.by i d ruled.there)).sees.written
 
     -- the parts stand for the log
-    of_given : ArePartsOf m.state_of (StandsFrom m key) (frame_of key) log (archived_in s.words) (durable_in s.words) (cores s.views) parts_given
+    of_given : ArePartsOf m.state_of (StandsFrom m key) (frame_of key) log s.words (cores s.views) parts_given
     of_given =
-        let core = core_there m laws key s log parts by i d there in
-        let seated = by.tied.seated i d.core core in
+        let core = core_there m laws key s log parts ruled.by i d ruled.there in
+        let seated = ruled.by.tied.seated i d.core core in
         let taken = seated.takes.to in
         let reach = reach_taken d.core.archives d.core.taken in
         ⊎_elim
         (λ shard.
-        shard_put m.state_of (StandsFrom m key) (frame_of key) log (archived_in s.words) (durable_in s.words) (cores s.views) parts place old new old_there
-        by.held.of (reach_of d.core) d.core.archived (owns_at place d) shard seated.knows.archived_to (λ p less. seen_written p (omega arith))
-        (reach_reached (cores s.views) i d.core core by.tied.one_archiver) stands_given (can.shard shard).successor)
+        shard_put m.state_of (StandsFrom m key) (frame_of key) log s.words (cores s.views) parts place old new old_there ruled.by.held.of shard stands_given
+        (record {
+          reach = reach_of d.core;
+          known = d.core.archived;
+          own = owns_at place d;
+          known_to = seated.knows.archived_to;
+          written = λ p less. seen_written p (omega arith);
+          reached = reach_reached (cores s.views) i d.core core ruled.by.tied.one_archiver;
+          is = (can.shard shard).successor;
+        }))
         (λ file.
-        file_put m.state_of (StandsFrom m key) (frame_of key) log (archived_in s.words) (durable_in s.words) (cores s.views) parts place old new old_there
-        by.held.of d.core.taken file (λ p less. seen_written p (omega arith)) stands_given (can.file file).successor)
+        file_put m.state_of (StandsFrom m key) (frame_of key) log s.words (cores s.views) parts place old new old_there ruled.by.held.of file stands_given
+        (record { taken = d.core.taken; written = λ p less. seen_written p (omega arith); is = (can.file file).successor }))
         shard_or_file
 
     -- what shards told of at a front they still tell of, where they aren't cut off there
@@ -163,15 +171,15 @@ module _ {P : Type 0} (m : Meaning P) (laws : IsLasting m) (key : Key P) where
     -- another seat doesn't have the part
     not_theirs : (j : ℕ) (u : SeatView P) → j ≢ i → get_elem? s.views j ≡ some u → has_note place u ≡ false
     not_theirs j u ne at_j =
-        let turn = by.home.turn place within in
+        let turn = ruled.by.home.turn place within in
         let counts = turn.counts in
         let one = turn.one in
-        ⊎_elim (λ theirs. absurd (not_two (has_note place) s.views i j d u ne there at_j (omega arith) has_it theirs)) (λ free. free)
+        ⊎_elim (λ theirs. absurd (not_two (has_note place) s.views i j d u ne ruled.there at_j (omega arith) has_it theirs)) (λ free. free)
         (cases_Bool (has_note place u))
 
     others_given : (j : ℕ) (u : SeatView P) → j ≢ i → get_elem? s.views j ≡ some u → IsSeat m key log s.words parts_given u
     others_given j u ne at_j =
-        let seat = by.seats j u at_j in
+        let seat = ruled.by.seats j u at_j in
         record {
           ended = seat.ended;
           about = seat.about;
@@ -184,13 +192,13 @@ module _ {P : Type 0} (m : Meaning P) (laws : IsLasting m) (key : Key P) where
 
     own_given : IsSeat m key log s.words parts_given seat_given
     own_given =
-        let seat = by.seats i d there in
+        let seat = ruled.by.seats i d ruled.there in
         record {
-          ended = λ dead. still_live d.core _ live dead;
+          ended = λ dead. still_live d.core _ ruled.live dead;
           about = seat.about;
           told = seat.told;
           lot = seat.lot;
-          kept = λ alive. kept_given d.core.archived (seat.kept live);
+          kept = λ alive. kept_given d.core.archived (seat.kept ruled.live);
           noted = noted_given older once
               (All-tail (λ (n : Note P). slice_get parts n.place ≡ Some n.part) (record { place = place; part = old }) older
               (subst (All (λ (n : Note P). slice_get parts n.place ≡ Some n.part)) noted seat.noted));
@@ -202,8 +210,8 @@ module _ {P : Type 0} (m : Meaning P) (laws : IsLasting m) (key : Key P) where
     file_given : IsFilePlace (frame_of key) place → IsFile m key log s.words (cores s.views) new
     file_given file =
         let give = can.file file in
-        let was = by.file place old old_there file in
-        let seat = by.seats i d there in
+        let was = ruled.by.file place old old_there file in
+        let seat = ruled.by.seats i d ruled.there in
         let recovered = was.recovered in
         let upto : ℕ = recovered.upto in
         let seen : ℕ = d.core.seen in
@@ -214,7 +222,7 @@ module _ {P : Type 0} (m : Meaning P) (laws : IsLasting m) (key : Key P) where
         let new_faults = give.faults in
         let faults : d.about.faults ≡ (m.mark_of key.file.value).faults = ap (λ (a : About). a.faults) about_given in
         let to = within_log log (cores s.views) upto recovered.written in
-        let sees = sees_on log d.told.seen seen upto seat.told.seen_is (seen_within m laws key s log parts by i d there i d there) to in
+        let sees = sees_on log d.told.seen seen upto seat.told.seen_is (seen_within m laws key s log parts ruled.by i d ruled.there i d ruled.there) to in
         let longer : take upto log ++ drop upto far ≡ far =
         ap (λ xs. xs ++ drop upto far) (sym (take-take upto (max seen upto) log (omega arith))) ∙ take-append-drop upto far
         in
@@ -247,22 +255,22 @@ module _ {P : Type 0} (m : Meaning P) (laws : IsLasting m) (key : Key P) where
         ⊎_elim
         (λ here.
         let shard' : IsShardPlace (frame_of key) place = subst (IsShardPlace (frame_of key)) here.0 shard in
-        let turn = by.home.turn place within in
+        let turn = ruled.by.home.turn place within in
         let counts = turn.counts in
         let one = turn.one in
         let now : ArePinned (pins_at place) (λ z. []) (λ z. false) (m.state_of new).pins (set s.views i seat_given) =
-        pinned_given (pins_at place) (has_note place) s.views i d seat_given d.core.archived (m.state_of old) (m.state_of new) there has_it (omega arith)
-        (can.shard shard').successor.keeps own_there (by.pinned place old old_there shard')
+        pinned_given (pins_at place) (has_note place) s.views i d seat_given d.core.archived (m.state_of old) (m.state_of new) ruled.there has_it (omega arith)
+        (can.shard shard').successor.keeps own_there (ruled.by.pinned place old old_there shard')
         in
         subst (λ q. ArePinned (pins_at q) (λ z. []) (λ z. false) (m.state_of part).pins (set s.views i seat_given)) (sym here.0)
         (subst (λ z. ArePinned (pins_at place) (λ y. []) (λ y. false) (m.state_of z).pins (set s.views i seat_given)) here.1 now))
         (λ other.
         let held = (m.state_of part).pins in
-        let are = by.pinned place' part other.1 shard in
+        let are = ruled.by.pinned place' part other.1 shard in
         let mine : IsPinnedBy (pins_at place') (λ z. []) (λ z. false) held d =
-        All-lookup (IsPinnedBy (pins_at place') (λ z. []) (λ z. false) held) s.views i d are.each there in
+        All-lookup (IsPinnedBy (pins_at place') (λ z. []) (λ z. false) held) s.views i d are.each ruled.there in
         let same : pins_at place' seat_given ≡ pins_at place' d = own_else place' other.0 in
-        pinned_set (pins_at place') (λ z. []) (λ z. false) held s.views i d seat_given there
+        pinned_set (pins_at place') (λ z. []) (λ z. false) held s.views i d seat_given ruled.there
         (record { pinned = λ free. subst (All (Contains held)) (sym same) (mine.pinned free); none_put = λ free. refl })
         (λ id owns. ap (λ ps. owns_name id ps []) (sym same) ∙ owns) are)
         (get_set parts place place' new part at')
@@ -271,49 +279,50 @@ module _ {P : Type 0} (m : Meaning P) (laws : IsLasting m) (key : Key P) where
     held_given : AreHeld m key log s.words (cores s.views) parts_given
     held_given =
         record {
-          count = length-set parts place new ∙ by.held.count;
+          count = length-set parts place new ∙ ruled.by.held.count;
           fits = λ place' part at'.
               ⊎_elim
               (λ here.
               subst (λ q. m.fits part q key.layout.shards key.layout.vertices) (sym here.0)
               (subst (λ z. m.fits z place key.layout.shards key.layout.vertices) here.1
               (subst (λ (a : About). m.fits new place a.shards a.vertices) about_given can.fits)))
-              (λ other. by.held.fits place' part other.1) (get_set parts place place' new part at');
+              (λ other. ruled.by.held.fits place' part other.1) (get_set parts place place' new part at');
           of = of_given;
           own = λ place' part at' shard.
               ⊎_elim
               (λ here. subst (λ z. m.keeps z (m.state_of z).front) here.1 (can.shard (subst (IsShardPlace (frame_of key)) here.0 shard)).own)
-              (λ other. by.held.own place' part other.1 shard) (get_set parts place place' new part at');
+              (λ other. ruled.by.held.own place' part other.1 shard) (get_set parts place place' new part at');
           kept = λ place' part at' shard.
               (let cut = (of_given.shards place' part at' shard).cut_to in
-              kept_given (archived_in s.words) (λ q z there' shard' _. by.held.kept q z there' shard') place' part at' shard cut);
+              kept_given (archived_in s.words) (λ q z there' shard' _. ruled.by.held.kept q z there' shard') place' part at' shard cut);
         }
 
     -- the turn is free, and its part at home
     given_turned : length s.homes ≡ key.layout.shards + 1
-        → Turned m laws key s log parts by i d there live place within 0 seat_given.stake (set s.homes place (some (Some new))) parts_given
+        → Turned m laws key s log parts i d ruled place within 0 seat_given.stake (set s.homes place (some (Some new))) parts_given
     given_turned many =
-        let views' = views_then m laws key s log parts by i d there live place within 0 seat_given.stake in
-        let reads = turn_reads m laws key s log parts by i d there live place within 0 in
+        let views' = views_then m laws key s log parts i d ruled place within 0 seat_given.stake in
+        let reads = turn_reads m laws key s log parts i d ruled place within 0 in
         record {
           held = held_given;
-          seats = seats_then m laws key s log parts by i d there live place within 0 seat_given.stake parts_given own_given others_given;
+          seats = seats_then m laws key s log parts i d ruled place within 0 seat_given.stake own_given others_given;
           file = λ place' part at' file.
               ⊎_elim
               (λ here. subst (IsFile m key log s.words (cores s.views)) here.1 (file_given (subst (IsFilePlace (frame_of key)) here.0 file)))
-              (λ other. by.file place' part other.1 file) (get_set parts place place' new part at');
+              (λ other. ruled.by.file place' part other.1 file) (get_set parts place place' new part at');
           home = record {
             turn = λ place' within'.
                 ⊎_elim
                 (λ (here : place' ≡ place).
                 subst (λ q. IsTurn (has_note q) (slice_index (set s.words (4 + place) 0) (4 + q)) views') (sym here)
                 (subst (λ n. IsTurn (has_note place) n views') (sym reads)
-                (turn_given (has_note place) s.views i d seat_given (slice_index s.words (4 + place)) there has_it once (by.home.turn place within))))
+                (turn_given (has_note place) s.views i d seat_given (slice_index s.words (4 + place)) ruled.there has_it once
+                (ruled.by.home.turn place within))))
                 (λ (ne : place' ≢ place).
                 subst (λ n. IsTurn (has_note place') n views') (sym (word_other s.words (4 + place) (4 + place') 0 (λ e. ne (omega arith))))
-                (turn_same (has_note place') s.views i d seat_given (slice_index s.words (4 + place')) there
+                (turn_same (has_note place') s.views i d seat_given (slice_index s.words (4 + place')) ruled.there
                 (sym (ap (λ ns. is_some (find (λ (n : Note P). n.place == place') ns)) noted ∙ noted_other place place' old older ne))
-                (by.home.turn place' within')))
+                (ruled.by.home.turn place' within')))
                 (cases_eq place' place);
             at_home = λ place' part at' free.
                 ⊎_elim
@@ -323,7 +332,7 @@ module _ {P : Type 0} (m : Meaning P) (laws : IsLasting m) (key : Key P) where
                 ∙ ap (λ z. some (some (Some z))) here.1)
                 (λ other.
                 lookup-set_other s.homes place place' (some (Some new)) other.0
-                ∙ by.home.at_home place' part other.1
+                ∙ ruled.by.home.at_home place' part other.1
                 (sym (word_other s.words (4 + place) (4 + place') 0 (λ e. let ne = other.0 in ne (omega arith))) ∙ free))
                 (get_set parts place place' new part at');
           };
@@ -336,17 +345,17 @@ module _ {P : Type 0} (m : Meaning P) (laws : IsLasting m) (key : Key P) where
   give_allowed slots id all me live step place within has s holds many there small =
       let log = holds.log in
       let parts = holds.parts in
-      let by = holds.by in
+      let seat : IsRuledSeat m key s log parts id me.0 = record { by = holds.by; there = there; live = live } in
       let is = has.is in
       let now = giving (record { place = place; part = has.old }) has.older (m.state_of has.old) (m.state_of has.new) me.0 in
-      let turned = given_turned s log parts by id me.0 there live place within has.old has.new has.older is.noted is.once has.can (many ∙ all) in
+      let turned = given_turned s log parts id me.0 seat place within has.old has.new has.older is.noted is.once has.can (many ∙ all) in
       let ruled : IsRuled m key (record { words = set s.words (4 + place) 0; homes = put_back s.homes me.1; views = set s.views id now }) =
       record {
         log = log;
         parts = set parts place has.new;
         by = subst (λ (hs : List (Option (Maybe P))). IsRuledBy m key (record { words = set s.words (4 + place) 0; homes = hs; views = set s.views id now })
             log (set parts place has.new)) (sym (ap (put_back s.homes) is.slot))
-            (turned_keeps m laws key s log parts by id me.0 there live place within 0 now.stake _ (set parts place has.new) turned);
+            (turned_keeps m laws key s log parts id me.0 seat place within 0 now.stake turned);
       }
       in
       (now, gives, tt, ruled, record { old = has.old; new = has.new; older = has.older; is = is; becomes = refl })

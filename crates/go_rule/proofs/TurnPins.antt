@@ -14,7 +14,7 @@ use Rattle.go_core.proofs.Totals.{bit_of}
 use Rattle.go_core.proofs.Lookups.{lookup-get_or, lookup-set}
 use Rattle.go_core.proofs.Claims.{All-lookup}
 use Rattle.go_core.proofs.TurnLaws.{count-set}
-use Rattle.go_core.proofs.Pinned.{named_passes, no_turn, still_held, nobody}
+use Rattle.go_core.proofs.Pinned.{PutsIn, named_passes, no_turn, still_held, nobody}
 use Rattle.go_rule.specs.declared.view.PlacedPin.{PlacedPin}
 use Rattle.go_rule.specs.Turns.{with_pins}
 use Rattle.go_rule.proofs.Lists.{same_number, other_number, is_number}
@@ -89,6 +89,7 @@ module _ {S : Type 0} (pins : S → List Pin) (has : S → Bool) where
             (λ x one. record { pinned = λ free. one.pinned refl; none_put = λ free. refl }) parties are.each;
         apart = are.apart;
       } in
+      let puts : PutsIn pins (λ x. []) has parties i s archived old new = record { there = there; mine = mine; few = few; keeps = keeps; are = by_turn } in
       record {
         each = λ k z within.
             (let u = get_or (set parties i s') k z in
@@ -100,8 +101,8 @@ module _ {S : Type 0} (pins : S → List Pin) (has : S → Bool) where
               none_put = λ free. refl;
             }))
             (λ other.
-            let free = no_turn pins (λ x. []) has parties i s s' archived old new there mine few keeps by_turn k u other.0 other.1 in
-            let held = still_held pins (λ x. []) has parties i s s' archived old new there mine few keeps by_turn in
+            let free = no_turn pins (λ x. []) has parties i s archived old new puts k u other.0 other.1 in
+            let held = still_held pins (λ x. []) has parties i s archived old new puts in
             record {
               pinned = λ _. (All-lookup (IsPinnedBy pins (λ x. []) has new.pins) parties k u held other.1).pinned free;
               none_put = λ _. refl;
@@ -126,7 +127,7 @@ module _ {S : Type 0} (pins : S → List Pin) (has : S → Bool) where
             ⊎_elim (λ own. absurd (false≢true (sym not' ∙ own))) (λ new'. not-true (has_name id old.pins) new')
             (or_cases (owns_name id (pins s) []) (not (has_name id old.pins)) passed)
             in
-            let none = nobody pins (λ x. []) has parties i s s' archived old new there mine few keeps by_turn id not' fresh in
+            let none = nobody pins (λ x. []) has parties i s archived old new puts id not' fresh in
             let was : bit_of (owns s) ≡ 0 = ap bit_of not' in
             omega arith) (cases_Bool (owns s)))
             (λ (none : owns s' ≡ false). let nothing : bit_of (owns s') ≡ 0 = ap bit_of none in omega arith)

@@ -28,7 +28,7 @@ use Rattle.go_rule.specs.Views.{frame_of, about_of, with_unmoved}
 use Rattle.go_rule.specs.Rule.{IsBelow, cores, has_note, pins_at, HasStood, IsSeat, IsRuledBy, IsRuled}
 use Rattle.go_rule.specs.Turns.{mark_in, taking, IsStand, IsTakenShard, IsTakenFile, IsTaken, TakesPart, TakesTurn}
 use Rattle.go_rule.proofs.Lists.{get_there, same_number, other_number}
-use Rattle.go_rule.proofs.Beside.{core_there, seen_within, beside_keeps}
+use Rattle.go_rule.proofs.Beside.{IsRuledSeat, core_there, seen_within, beside_keeps}
 use Rattle.go_rule.proofs.Turning.{turn_reads, views_then, view_then, Turned, turned_keeps, seats_then}
 use Rattle.go_rule.proofs.WorkerSteps.{unmoved_beside}
 
@@ -47,21 +47,21 @@ module _ {P : Type 0} where
       (other_number place other (λ e. ne (sym e)))
 
 module _ {P : Type 0} (m : Meaning P) (laws : IsLasting m) (key : Key P) where
-  module _ (s : State (Maybe P) (SeatView P)) (log : List Edge) (parts : List P) (by : IsRuledBy m key s log parts) (i : ℕ) (d : SeatView P)
-      (there : get_elem? s.views i ≡ some d) (live : d.core.live ≡ true) (place : ℕ) (within : place ≤ key.layout.shards) (part : P)
+  module _ (s : State (Maybe P) (SeatView P)) (log : List Edge) (parts : List P) (i : ℕ) (d : SeatView P) (ruled : IsRuledSeat m key s log parts i d)
+      (place : ℕ) (within : place ≤ key.layout.shards) (part : P)
       (at_place : slice_get parts place ≡ Some part) where
     -- what the seat has in its stake then
     abbrev stake_then : Stake P
     stake_then = record d.stake { notes = record { place = place; part = part } ∷ d.stake.notes }
 
     about_is : d.about ≡ about_of (m.mark_of key.file.value) key
-    about_is = (by.seats i d there).about live
+    about_is = (ruled.by.seats i d ruled.there).about ruled.live
 
     taken_seat : IsSeat m key log s.words parts (taking place part d)
     taken_seat =
-        let seat = by.seats i d there in
+        let seat = ruled.by.seats i d ruled.there in
         record {
-          ended = λ dead. still_live d.core _ live dead;
+          ended = λ dead. still_live d.core _ ruled.live dead;
           about = seat.about;
           told = seat.told;
           lot = seat.lot;
@@ -72,27 +72,27 @@ module _ {P : Type 0} (m : Meaning P) (laws : IsLasting m) (key : Key P) where
 
     -- the turn is the seat's, and its part is out
     taken_turned : slice_index s.words (4 + place) ≡ 0
-        → Turned m laws key s log parts by i d there live place within 1 stake_then (set s.homes place none) parts
+        → Turned m laws key s log parts i d ruled place within 1 stake_then (set s.homes place none) parts
     taken_turned zero =
-        let views' = views_then m laws key s log parts by i d there live place within 1 stake_then in
-        let w = view_then m laws key s log parts by i d there live place within 1 stake_then in
-        let reads = turn_reads m laws key s log parts by i d there live place within 1 in
+        let views' = views_then m laws key s log parts i d ruled place within 1 stake_then in
+        let w = view_then m laws key s log parts i d ruled place within 1 stake_then in
+        let reads = turn_reads m laws key s log parts i d ruled place within 1 in
         record {
-          held = by.held;
-          seats = seats_then m laws key s log parts by i d there live place within 1 stake_then parts taken_seat (λ j u ne at_j. by.seats j u at_j);
-          file = by.file;
+          held = ruled.by.held;
+          seats = seats_then m laws key s log parts i d ruled place within 1 stake_then taken_seat (λ j u ne at_j. ruled.by.seats j u at_j);
+          file = ruled.by.file;
           home = record {
             turn = λ place' within'.
                 ⊎_elim
                 (λ (here : place' ≡ place).
                 subst (λ q. IsTurn (has_note q) (slice_index (set s.words (4 + place) 1) (4 + q)) views') (sym here)
                 (subst (λ n. IsTurn (has_note place) n views') (sym reads)
-                (turn_taken (has_note place) s.views i d w there (noted_here place part d.stake.notes)
-                (subst (λ n. IsTurn (has_note place) n s.views) zero (by.home.turn place within)))))
+                (turn_taken (has_note place) s.views i d w ruled.there (noted_here place part d.stake.notes)
+                (subst (λ n. IsTurn (has_note place) n s.views) zero (ruled.by.home.turn place within)))))
                 (λ (ne : place' ≡ place → ⊥).
                 subst (λ n. IsTurn (has_note place') n views') (sym (word_other s.words (4 + place) (4 + place') 1 (λ e. ne (omega arith))))
-                (turn_same (has_note place') s.views i d w (slice_index s.words (4 + place')) there (noted_other place place' part d.stake.notes ne)
-                (by.home.turn place' within')))
+                (turn_same (has_note place') s.views i d w (slice_index s.words (4 + place')) ruled.there (noted_other place place' part d.stake.notes ne)
+                (ruled.by.home.turn place' within')))
                 (cases_eq place' place);
             at_home = λ place' part' at' free.
                 ⊎_elim
@@ -101,39 +101,40 @@ module _ {P : Type 0} (m : Meaning P) (laws : IsLasting m) (key : Key P) where
                 absurd (omega arith))
                 (λ (ne : place' ≡ place → ⊥).
                 lookup-set_other s.homes place place' none ne
-                ∙ by.home.at_home place' part' at' (sym (word_other s.words (4 + place) (4 + place') 1 (λ e. ne (omega arith))) ∙ free))
+                ∙ ruled.by.home.at_home place' part' at' (sym (word_other s.words (4 + place) (4 + place') 1 (λ e. ne (omega arith))) ∙ free))
                 (cases_eq place' place);
           };
           pinned = λ place' part' at' shard.
-              pinned_set (pins_at place') (λ z. []) (λ z. false) (m.state_of part').pins s.views i d w there
+              pinned_set (pins_at place') (λ z. []) (λ z. false) (m.state_of part').pins s.views i d w ruled.there
               (let old : IsPinnedBy (pins_at place') (λ z. []) (λ z. false) (m.state_of part').pins d =
-              All-lookup (IsPinnedBy (pins_at place') (λ z. []) (λ z. false) (m.state_of part').pins) s.views i d (by.pinned place' part' at' shard).each there
+              All-lookup (IsPinnedBy (pins_at place') (λ z. []) (λ z. false) (m.state_of part').pins) s.views i d
+              (ruled.by.pinned place' part' at' shard).each ruled.there
               in
               record { pinned = old.pinned; none_put = λ free. refl })
-              (λ id owns. owns) (by.pinned place' part' at' shard);
+              (λ id owns. owns) (ruled.by.pinned place' part' at' shard);
         }
 
     -- what the seat is told of a shard
     taken_shard : IsShardPlace (frame_of key) place → IsTakenShard m d place part
     taken_shard shard =
-        let core = core_there m laws key s log parts by i d there in
-        let known = (by.tied.seated i d.core core).knows in
+        let core = core_there m laws key s log parts ruled.by i d ruled.there in
+        let known = (ruled.by.tied.seated i d.core core).knows in
         record {
-          in_hand = in_hand d.core.archived (archived_in s.words) (m.state_of part) known.archived_to (by.held.of.shards place part at_place shard);
-          own = by.held.own place part at_place shard;
-          kept = (by.seats i d there).kept live place part at_place shard;
-          reached = λ role. by.held.of.reached place part at_place shard i d.core core role;
+          in_hand = in_hand d.core.archived (archived_in s.words) (m.state_of part) known.archived_to (ruled.by.held.of.shards place part at_place shard);
+          own = ruled.by.held.own place part at_place shard;
+          kept = (ruled.by.seats i d ruled.there).kept ruled.live place part at_place shard;
+          reached = λ role. ruled.by.held.of.reached place part at_place shard i d.core core role;
           pins = (All-lookup (IsPinnedBy (pins_at place) (λ z. []) (λ z. false) (m.state_of part).pins) s.views i d
-              (by.pinned place part at_place shard).each there).pinned refl;
+              (ruled.by.pinned place part at_place shard).each ruled.there).pinned refl;
         }
 
     -- and of the file
     taken_file : IsFilePlace (frame_of key) place → IsTakenFile m d log part
     taken_file file =
-        let known = (by.tied.seated i d.core (core_there m laws key s log parts by i d there)).knows in
-        let far = by.held.of.file place part at_place file in
+        let known = (ruled.by.tied.seated i d.core (core_there m laws key s log parts ruled.by i d ruled.there)).knows in
+        let far = ruled.by.held.of.file place part at_place file in
         let durable = known.durable_to in
-        let is = by.file place part at_place file in
+        let is = ruled.by.file place part at_place file in
         let recovered = is.recovered in
         let clock : d.about.clock ≡ (m.mark_of key.file.value).clock = ap (λ (a : About). a.clock) about_is in
         let faults : d.about.faults ≡ (m.mark_of key.file.value).faults = ap (λ (a : About). a.faults) about_is in
@@ -152,18 +153,18 @@ module _ {P : Type 0} (m : Meaning P) (laws : IsLasting m) (key : Key P) where
 
     taken_is : IsTaken m (frame_of key) d place part
     taken_is =
-        let seat = by.seats i d there in
-        let seen = seen_within m laws key s log parts by i d there i d there in
-        let of = by.held.of.of_log place part at_place in
+        let seat = ruled.by.seats i d ruled.there in
+        let seen = seen_within m laws key s log parts ruled.by i d ruled.there i d ruled.there in
+        let of = ruled.by.held.of.of_log place part at_place in
         record {
           log = log;
           over = record {
             seen = seat.told.seen_is ∙ ap (λ n. take n log) (sym (ap length seat.told.seen_is ∙ length-take-le d.core.seen log seen));
-            below = subst (λ (a : About). All (IsBelow a.vertices) log) (sym about_is) by.logged.below;
+            below = subst (λ (a : About). All (IsBelow a.vertices) log) (sym about_is) ruled.by.logged.below;
             within = within_log log (cores s.views) (m.state_of part).front of.written;
             stands = subst (λ (a : About). m.stands_for part a.first log) (sym about_is) of.stands;
           };
-          fits = subst (λ (a : About). m.fits part place a.shards a.vertices) (sym about_is) (by.held.fits place part at_place);
+          fits = subst (λ (a : About). m.fits part place a.shards a.vertices) (sym about_is) (ruled.by.held.fits place part at_place);
           stood = All-weaker (HasStood m (frame_of key) parts) (IsStand m (frame_of key) place part)
               (λ x stood. record {
                 reached = λ here. stood.reached part (ap (slice_get parts) here ∙ at_place);
@@ -179,7 +180,7 @@ module _ {P : Type 0} (m : Meaning P) (laws : IsLasting m) (key : Key P) where
         record {
           part = part;
           becomes = refl;
-          free = turn_free (has_note place) s.views i d there (subst (λ n. IsTurn (has_note place) n s.views) zero (by.home.turn place within));
+          free = turn_free (has_note place) s.views i d ruled.there (subst (λ n. IsTurn (has_note place) n s.views) zero (ruled.by.home.turn place within));
           about = (
             let shards : d.about.shards ≡ key.layout.shards = ap (λ (a : About). a.shards) about_is in omega arith,
             ap (λ (a : About). a.first) about_is,
@@ -194,6 +195,7 @@ module _ {P : Type 0} (m : Meaning P) (laws : IsLasting m) (key : Key P) where
       let parts = holds.parts in
       let by = holds.by in
       let d = me.0 in
+      let ruled : IsRuledSeat m key s log parts id d = record { by = by; there = there; live = live } in
       let count = by.held.count in
       let found = get_there parts place (omega arith) in
       let few = (by.home.turn place within).one in
@@ -203,15 +205,14 @@ module _ {P : Type 0} (m : Meaning P) (laws : IsLasting m) (key : Key P) where
       record {
         log = log;
         parts = parts;
-        by = turned_keeps m laws key s log parts by id d there live place within 1 _ (set s.homes place none) parts
-            (taken_turned s log parts by id d there live place within found.0 found.1 zero);
+        by = turned_keeps m laws key s log parts id d ruled place within 1 _ (taken_turned s log parts id d ruled place within found.0 found.1 zero);
       }
       in (
         taking place found.0 d,
         takes place (Some found.0),
         by.home.at_home place found.0 found.1 zero,
         now,
-        inl (zero, taken_part s log parts by id d there live place within found.0 found.1 me.1 zero),
+        inl (zero, taken_part s log parts id d ruled place within found.0 found.1 me.1 zero),
       ))
       (λ (ne : slice_index s.words (4 + place) ≡ 0 → ⊥).
       let one : slice_index s.words (4 + place) ≡ 1 = is_one (slice_index s.words (4 + place)) few ne in
@@ -222,7 +223,7 @@ module _ {P : Type 0} (m : Meaning P) (laws : IsLasting m) (key : Key P) where
         by = subst
             (λ n. IsRuledBy m key (record { words = set s.words (4 + place) n; homes = s.homes; views = set s.views id (with_unmoved d) }) (log ++ []) parts)
             one
-            (beside_keeps m laws key s log parts by id d there (with_unmoved d) _ [] (unmoved_beside m laws key s log parts by id d there live (4 + place)));
+            (beside_keeps m laws key s log parts by id d there (with_unmoved d) _ [] (unmoved_beside m laws key s log parts id d ruled (4 + place)));
       }
       in
       (with_unmoved d, keeps, tt, now, inr (one, refl)))

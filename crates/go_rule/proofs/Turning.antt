@@ -14,7 +14,7 @@ use Rattle.go_core.proofs.Totals.{total-set}
 use Rattle.go_core.proofs.Lookups.{lookup-set}
 use Rattle.go_core.proofs.Moved.{word_here, word_other}
 use Rattle.go_core.proofs.Parted.{written_less, reached_set}
-use Rattle.go_core.proofs.PartLaws.{parts_onward}
+use Rattle.go_core.proofs.PartLaws.{parts_onward, parts_still}
 use Rattle.go_core.proofs.TurnLaws.{turn_stored}
 use Rattle.go_rule.specs.declared.layout.Key.{Key}
 use Rattle.go_rule.specs.declared.view.Stake.{Stake}
@@ -22,14 +22,14 @@ use Rattle.go_rule.specs.declared.view.SeatView.{SeatView}
 use Rattle.go_rule.specs.Meaning.{Meaning, IsLasting}
 use Rattle.go_rule.specs.Views.{frame_of}
 use Rattle.go_rule.specs.Rule.{cores, StandsFrom, AreHeld, IsSeat, IsFile, AreHome, IsPinned, IsRuledBy}
-use Rattle.go_rule.proofs.Beside.{seat_onward, core_there, seen_within}
+use Rattle.go_rule.proofs.Beside.{IsRuledSeat, seat_onward, core_there, seen_within}
 
 module _ {P : Type 0} (m : Meaning P) (laws : IsLasting m) (key : Key P) where
-  module _ (s : State (Maybe P) (SeatView P)) (log : List Edge) (parts : List P) (by : IsRuledBy m key s log parts) (i : ℕ) (d : SeatView P)
-      (there : get_elem? s.views i ≡ some d) (live : d.core.live ≡ true) (place : ℕ) (within : place ≤ key.layout.shards) where
+  module _ (s : State (Maybe P) (SeatView P)) (log : List Edge) (parts : List P) (i : ℕ) (d : SeatView P) (ruled : IsRuledSeat m key s log parts i d)
+      (place : ℕ) (within : place ≤ key.layout.shards) where
     -- the turn's word is there, and reads what was stored
     pub turn_reads : (n : ℕ) → slice_index (set s.words (4 + place) n) (4 + place) ≡ n
-    turn_reads n = let all = by.tied.ringed.shape.all_words in word_here s.words (4 + place) n (omega arith)
+    turn_reads n = let all = ruled.by.tied.ringed.shape.all_words in word_here s.words (4 + place) n (omega arith)
 
     module _ (n : ℕ) (stake : Stake P) where
       -- the words and the seat's view after the step
@@ -58,23 +58,24 @@ module _ {P : Type 0} (m : Meaning P) (laws : IsLasting m) (key : Key P) where
       written_then : (p : ℕ) → IsWritten log (cores s.views) p → IsWritten log (cores views_then) p
       written_then p old =
           subst (λ vs. IsWritten log vs p) (sym cores_then)
-          (written_less log log (cores s.views) i d.core (unmoved d.core) (core_there m laws key s log parts by i d there) (omega arith)
+          (written_less log log (cores s.views) i d.core (unmoved d.core) (core_there m laws key s log parts ruled.by i d ruled.there) (omega arith)
           (λ q less. omega arith) p old)
 
       reached_then : (front : ℕ) → IsReached (cores s.views) front → IsReached (cores views_then) front
       reached_then front old =
           subst (λ vs. IsReached vs front) (sym cores_then)
-          (reached_set (cores s.views) i d.core (unmoved d.core) (core_there m laws key s log parts by i d there) (λ role. (role, omega arith)) front old)
+          (reached_set (cores s.views) i d.core (unmoved d.core) (core_there m laws key s log parts ruled.by i d ruled.there) (λ role. (role, omega arith))
+          front old)
 
       tied_then : TiedBy (frame_of key) log words_then (cores views_then)
       tied_then =
           subst (TiedBy (frame_of key) log words_then) (sym cores_then)
-          (turn_stored (frame_of key) log s.words (cores s.views) i d.core (4 + place) n (core_there m laws key s log parts by i d there) live
-          (omega arith) (omega arith) by.tied)
+          (turn_stored (frame_of key) log s.words (cores s.views) i d.core (4 + place) n (core_there m laws key s log parts ruled.by i d ruled.there) ruled.live
+          (omega arith) (omega arith) ruled.by.tied)
 
       total_then : (g : SeatView P → ℕ) → g view_then ≡ g d → sum_by g views_then ≡ sum_by g s.views
       total_then g same =
-          let e : sum_by g views_then + g d ≡ sum_by g s.views + g view_then = total-set g s.views i d view_then there in
+          let e : sum_by g views_then + g d ≡ sum_by g s.views + g view_then = total-set g s.views i d view_then ruled.there in
           omega arith
 
       seat_then : (parts' : List P) (u : SeatView P) → u.core.seen ≤ length log → IsSeat m key log s.words parts' u → IsSeat m key log words_then parts' u
@@ -87,14 +88,12 @@ module _ {P : Type 0} (m : Meaning P) (laws : IsLasting m) (key : Key P) where
             flag = λ raised. (let e = flag_then in omega arith);
           }) seen is)
 
-      parts_then : (parts' : List P)
-          → ArePartsOf m.state_of (StandsFrom m key) (frame_of key) log (archived_in s.words) (durable_in s.words) (cores s.views) parts'
-          → ArePartsOf m.state_of (StandsFrom m key) (frame_of key) log (archived_in words_then) (durable_in words_then) (cores views_then) parts'
+      parts_then : (parts' : List P) → ArePartsOf m.state_of (StandsFrom m key) (frame_of key) log s.words (cores s.views) parts'
+          → ArePartsOf m.state_of (StandsFrom m key) (frame_of key) log words_then (cores views_then) parts'
       parts_then parts' of =
-          subst (λ a. ArePartsOf m.state_of (StandsFrom m key) (frame_of key) log a (durable_in words_then) (cores views_then) parts') (sym archived_then)
-          (subst (λ b. ArePartsOf m.state_of (StandsFrom m key) (frame_of key) log (archived_in s.words) b (cores views_then) parts') (sym durable_then)
-          (parts_onward m.state_of (StandsFrom m key) (frame_of key) log log (archived_in s.words) (durable_in s.words) (cores s.views) (cores views_then)
-          parts' (λ part old. old) written_then reached_then of))
+          parts_still m.state_of (StandsFrom m key) (frame_of key) log s.words words_then (cores views_then) parts' archived_then durable_then
+          (parts_onward m.state_of (StandsFrom m key) (frame_of key) log log s.words (cores s.views) (cores views_then) parts' (λ part old. old) written_then
+          reached_then of)
 
       -- the parts may be others by the words and the cores that were, and homes, turns and pins are as they have to be then
       pub record Turned (homes' : List (Option (Maybe P))) (parts' : List P) : Type 0 where
@@ -105,15 +104,15 @@ module _ {P : Type 0} (m : Meaning P) (laws : IsLasting m) (key : Key P) where
         pub home : AreHome m key words_then homes' views_then parts'
         pub pinned : IsPinned m key views_then parts'
 
-      pub turned_keeps : (homes' : List (Option (Maybe P))) (parts' : List P) → Turned homes' parts'
+      pub turned_keeps : {homes' : List (Option (Maybe P))} {parts' : List P} → Turned homes' parts'
           → IsRuledBy m key (record { words = words_then; homes = homes'; views = views_then }) log parts'
-      turned_keeps homes' parts' t =
+      turned_keeps {homes'} {parts'} t =
           record {
             tied = tied_then;
-            logged = by.logged;
+            logged = ruled.by.logged;
             shared = record {
-              quotas = let old = by.shared.quotas in let same = total_then (λ (z : SeatView P). z.share.quota) (omega arith) in omega arith;
-              lots = total_then (λ (z : SeatView P). z.share.lot) (omega arith) ∙ by.shared.lots;
+              quotas = let old = ruled.by.shared.quotas in let same = total_then (λ (z : SeatView P). z.share.quota) (omega arith) in omega arith;
+              lots = total_then (λ (z : SeatView P). z.share.lot) (omega arith) ∙ ruled.by.shared.lots;
             };
             seats = λ j u at_j. let seat = t.seats j u at_j in seat_then parts' u seat.0 seat.1;
             held = record {
@@ -137,11 +136,12 @@ module _ {P : Type 0} (m : Meaning P) (laws : IsLasting m) (key : Key P) where
           }
 
       -- each seat but the one, over parts of which it says the same
-      pub seats_then : (parts' : List P) → IsSeat m key log s.words parts' view_then
+      pub seats_then : {parts' : List P} → IsSeat m key log s.words parts' view_then
           → ((j : ℕ) (u : SeatView P) → (j ≡ i → ⊥) → get_elem? s.views j ≡ some u → IsSeat m key log s.words parts' u)
           → (j : ℕ) (u : SeatView P) → get_elem? views_then j ≡ some u → (u.core.seen ≤ length log) × IsSeat m key log s.words parts' u
-      seats_then parts' one others j u at_j =
+      seats_then {parts'} one others j u at_j =
           ⊎_elim
           (λ here. subst (λ z. (z.core.seen ≤ length log) × IsSeat m key log s.words parts' z) here.1
-          (seen_within m laws key s log parts by i d there i d there, one))
-          (λ other. (seen_within m laws key s log parts by i d there j u other.1, others j u other.0 other.1)) (lookup-set s.views i j view_then u at_j)
+          (seen_within m laws key s log parts ruled.by i d ruled.there i d ruled.there, one))
+          (λ other. (seen_within m laws key s log parts ruled.by i d ruled.there j u other.1, others j u other.0 other.1))
+          (lookup-set s.views i j view_then u at_j)

@@ -23,33 +23,32 @@ use Rattle.go_rule.specs.declared.layout.Key.{Key}
 use Rattle.go_rule.specs.declared.view.SeatView.{SeatView}
 use Rattle.go_rule.specs.Meaning.{Meaning, IsLasting}
 use Rattle.go_rule.specs.Views.{frame_of, claiming, with_stored}
-use Rattle.go_rule.specs.Rule.{IsBelow, cores, IsRuledBy, IsRuled}
+use Rattle.go_rule.specs.Rule.{IsBelow, cores, IsRuled}
 use Rattle.go_rule.specs.Steps.{Claims, Stores}
-use Rattle.go_rule.proofs.Beside.{seat_onward, core_there, seen_within, Beside, allowed}
+use Rattle.go_rule.proofs.Beside.{IsRuledSeat, seat_onward, core_there, seen_within, Beside, allowed}
 use Rattle.go_rule.proofs.Renewals.{fronts_still, told_on, renewed_beside, old_kept, numbers_to}
 
 module _ {P : Type 0} (m : Meaning P) (laws : IsLasting m) (key : Key P) where
-  module _ (s : State (Maybe P) (SeatView P)) (log : List Edge) (parts : List P) (by : IsRuledBy m key s log parts) (i : ℕ) (d : SeatView P)
-      (there : get_elem? s.views i ≡ some d) (live : d.core.live ≡ true) where
+  module _ (s : State (Maybe P) (SeatView P)) (log : List Edge) (parts : List P) (i : ℕ) (d : SeatView P) (ruled : IsRuledSeat m key s log parts i d) where
     -- the entries of a claim have positions below 2^32
     claim_small : (es : List Edge) → length es ≤ d.share.quota → length log + length es ≤ 2 ^ 32 - 1
     claim_small es few =
-        let all = by.shared.quotas in
-        let mine : d.share.quota ≤ sum_by (λ (z : SeatView P). z.share.quota) s.views = term-le (λ (z : SeatView P). z.share.quota) s.views i d there in
+        let all = ruled.by.shared.quotas in
+        let mine : d.share.quota ≤ sum_by (λ (z : SeatView P). z.share.quota) s.views = term-le (λ (z : SeatView P). z.share.quota) s.views i d ruled.there in
         omega arith
 
     claim_beside : (es : List Edge) → All IsStorable es → All (IsBelow key.layout.vertices) es → length es ≤ d.share.quota
-        → Beside m laws key s log parts by i d there (claiming (length log) es d) (set s.words 0 (length log + length es)) es
+        → Beside m laws key s log parts ruled.by i d ruled.there (claiming (length log) es d) (set s.words 0 (length log + length es)) es
     claim_beside es storable below few =
-        let seat = by.seats i d there in
+        let seat = ruled.by.seats i d ruled.there in
         let w = claiming (length log) es d in
         let words' = set s.words 0 (length log + length es) in
-        let core = core_there m laws key s log parts by i d there in
-        let fronts = fronts_still m laws key s log parts by i d there live words' (word_other s.words 0 1 _ (λ e. omega arith))
+        let core = core_there m laws key s log parts ruled.by i d ruled.there in
+        let fronts = fronts_still m laws key s log parts i d ruled words' (word_other s.words 0 1 _ (λ e. omega arith))
         (word_other s.words 0 2 _ (λ e. omega arith)) (word_other s.words 0 3 _ (λ e. omega arith)) in
         let long = length-append log es in
         record {
-          tied = claim_keeps (frame_of key) log es s.words (cores s.views) i d.core core live storable by.tied;
+          tied = claim_keeps (frame_of key) log es s.words (cores s.views) i d.core core ruled.live storable ruled.by.tied;
           below = below;
           written = λ p old.
               written_less log (log ++ es) (cores s.views) i d.core w.core core (omega arith)
@@ -60,9 +59,9 @@ module _ {P : Type 0} (m : Meaning P) (laws : IsLasting m) (key : Key P) where
           turns = λ place within. word_other s.words 0 (4 + place) _ (λ e. omega arith);
           fronts = fronts;
           goes_on = λ role. (role, omega arith);
-          seat = seat_onward m laws key log es s.words words' parts w fronts.rises (seen_within m laws key s log parts by i d there i d there)
+          seat = seat_onward m laws key log es s.words words' parts w fronts.rises (seen_within m laws key s log parts ruled.by i d ruled.there i d ruled.there)
               (record {
-                ended = λ dead. still_live d.core _ live dead;
+                ended = λ dead. still_live d.core _ ruled.live dead;
                 about = seat.about;
                 told = seat.told;
                 lot = seat.lot;
@@ -74,24 +73,25 @@ module _ {P : Type 0} (m : Meaning P) (laws : IsLasting m) (key : Key P) where
         }
 
     store_beside : (x : Entry) → Contains d.core.pending x → HasRoom (frame_of key) d.core x.at
-        → Beside m laws key s log parts by i d there (with_stored x d) (set s.words (place (frame_of key) x.at) (word key.layout.ring x.at x.edge)) []
+        → Beside m laws key s log parts ruled.by i d ruled.there (with_stored x d) (set s.words (place (frame_of key) x.at)
+        (word key.layout.ring x.at x.edge)) []
     store_beside x pending room =
         let k = place (frame_of key) x.at in
         let n = word key.layout.ring x.at x.edge in
         let words' = set s.words k n in
-        let core = core_there m laws key s log parts by i d there in
+        let core = core_there m laws key s log parts ruled.by i d ruled.there in
         let archived : archived_in words' ≡ archived_in s.words = word_other s.words k 1 n (λ e. omega arith) in
         let durable : durable_in words' ≡ durable_in s.words = word_other s.words k 2 n (λ e. omega arith) in
         let flag : flag_in words' ≡ flag_in s.words = word_other s.words k 3 n (λ e. omega arith) in
-        let fronts = fronts_still m laws key s log parts by i d there live words' archived durable flag in
-        renewed_beside m laws key s log parts by i d there live (stored x d.core) d.told words'
+        let fronts = fronts_still m laws key s log parts i d ruled words' archived durable flag in
+        renewed_beside m laws key s log parts i d ruled (stored x d.core) d.told words'
         (record {
-          lives = live;
-          tied = store_keeps (frame_of key) log s.words (cores s.views) i d.core x core live pending room by.tied;
+          lives = ruled.live;
+          tied = store_keeps (frame_of key) log s.words (cores s.views) i d.core x core ruled.live pending room ruled.by.tied;
           less = λ q. let less = count_at-without_le q x.at d.core.pending in omega arith;
           goes_on = λ role. (role, omega arith);
-          told = told_on m laws key s log parts by i d there live words' fronts.rises;
-          kept = old_kept m laws key s log parts by i d there live;
+          told = told_on m laws key s log parts i d ruled words' fronts.rises;
+          kept = old_kept m laws key s log parts i d ruled;
         })
         (λ place' within. word_other s.words k (4 + place') n (λ e. omega arith))
         fronts
@@ -102,21 +102,21 @@ module _ {P : Type 0} (m : Meaning P) (laws : IsLasting m) (key : Key P) where
         → Allows (IsRuled m key) slots id me 0 (λ n. (n + count) % 2 ^ 64) (Claims es step me)
     claim_allowed es count many storable below few =
         subst (λ z. Allows (IsRuled m key) slots id me 0 (λ n. (n + z) % 2 ^ 64) (Claims es step me)) (sym many)
-        (allowed m laws key slots id me 0 (λ n. (n + length es) % 2 ^ 64) (Claims es step me)
-        (λ s log parts by there small.
+        (allowed m laws key slots id me live 0 (λ n. (n + length es) % 2 ^ 64) (Claims es step me)
+        (λ s log parts ruled small.
         let n = head_in s.words in
-        let head : n ≡ length log = by.tied.ringed.shape.head in
-        let total = claim_small s log parts by id me.0 there live es few in
+        let head : n ≡ length log = ruled.by.tied.ringed.shape.head in
+        let total = claim_small s log parts id me.0 ruled es few in
         let sum : (n + length es) % 2 ^ 64 ≡ length log + length es = mod-eq_of_lt (fits n (length log) (length es) head total)
         ∙ ap (λ k. k + length es) head in
-        let to = numbers_to m laws key s log parts by id me.0 there live in
+        let to = numbers_to m laws key s log parts id me.0 ruled in
         let one = to.0 in
         let two = to.1 in
-        let kept = claim_beside s log parts by id me.0 there live es storable below few in (
+        let kept = claim_beside s log parts id me.0 ruled es storable below few in (
           claiming n es me.0,
           es,
-          subst (λ k. Beside m laws key s log parts by id me.0 there (claiming k es me.0) (set s.words 0 ((n + length es) % 2 ^ 64)) es) (sym head)
-              (subst (λ k. Beside m laws key s log parts by id me.0 there (claiming (length log) es me.0) (set s.words 0 k) es) (sym sum) kept),
+          subst (λ k. Beside m laws key s log parts ruled.by id me.0 ruled.there (claiming k es me.0) (set s.words 0 ((n + length es) % 2 ^ 64)) es) (sym head)
+              (subst (λ k. Beside m laws key s log parts ruled.by id me.0 ruled.there (claiming (length log) es me.0) (set s.words 0 k) es) (sym sum) kept),
           (refl, omega arith, omega arith, small_sum n (length log) (length es) head total),
         )))
       where
@@ -129,11 +129,11 @@ module _ {P : Type 0} (m : Meaning P) (laws : IsLasting m) (key : Key P) where
     pub store_allowed : (x : Entry) → Contains me.0.core.pending x → HasRoom (frame_of key) me.0.core x.at → (new : ℕ) → new ≡ word key.layout.ring x.at x.edge
         → Allows (IsRuled m key) slots id me (place (frame_of key) x.at) (λ _. new) (λ _. Stores x step me new)
     store_allowed x pending room new is =
-        allowed m laws key slots id me (place (frame_of key) x.at) (λ _. new) (λ _. Stores x step me new)
-        (λ s log parts by there small. (
+        allowed m laws key slots id me live (place (frame_of key) x.at) (λ _. new) (λ _. Stores x step me new)
+        (λ s log parts ruled small. (
           with_stored x me.0,
           [],
-          subst (λ n. Beside m laws key s log parts by id me.0 there (with_stored x me.0) (set s.words (place (frame_of key) x.at) n) []) (sym is)
-              (store_beside s log parts by id me.0 there live x pending room),
+          subst (λ n. Beside m laws key s log parts ruled.by id me.0 ruled.there (with_stored x me.0) (set s.words (place (frame_of key) x.at) n) []) (sym is)
+              (store_beside s log parts id me.0 ruled x pending room),
           refl,
         ))

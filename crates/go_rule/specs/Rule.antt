@@ -84,7 +84,7 @@ module _ {P : Type 0} where
     pub record AreHeld (key : Key P) (log : List Edge) (words : List ℕ) (views : List View) (parts : List P) : Type 0 where
       pub count : length parts ≡ key.layout.shards + 1
       pub fits : (place : ℕ) (part : P) → slice_get parts place ≡ Some part → m.fits part place key.layout.shards key.layout.vertices
-      pub of : ArePartsOf m.state_of (StandsFrom key) (frame_of key) log (archived_in words) (durable_in words) views parts
+      pub of : ArePartsOf m.state_of (StandsFrom key) (frame_of key) log words views parts
       pub own : (place : ℕ) (part : P) → slice_get parts place ≡ Some part → IsShardPlace (frame_of key) place → m.keeps part (m.state_of part).front
       pub kept : (place : ℕ) (part : P) → slice_get parts place ≡ Some part → IsShardPlace (frame_of key) place → m.keeps part (archived_in words)
 
