@@ -1,6 +1,6 @@
 -- The loads of the log's length and of the fronts keep the rule, and what they tell.
-use Rattle.std.proofs.Common.{◌≡◌, ℕ, ◌<◌, ◌≤◌, true, false, List, [], length, take, sym, refl, ap, ⊎_elim, arith, subst}
-use Rattle.std.specs.Prelude.{All, Contains, Some, slice_get, max, Option as Maybe}
+use Rattle.std.proofs.Common.{◌≡◌, ℕ, ◌<◌, ◌≤◌, true, false, List, [], length, take, set, sym, refl, ap, ⊎_elim, arith, subst}
+use Rattle.std.specs.Prelude.{All, Contains, Some, slice_get, slice_index, max, Option as Maybe}
 use Rattle.std.proofs.lemmas.Bool.{both_ways, cases_lt}
 use Rattle.std.proofs.lemmas.List.{length-take-le}
 use Rattle.std.proofs.lemmas.List.Elements.{All-weaker, All-contains, All-contains_itself}
@@ -11,7 +11,7 @@ use Rattle.go_word.specs.declared.edge.Edge.{Edge}
 use Rattle.go_word.specs.declared.pin.Pin.{Pin}
 use Rattle.go_word.specs.Word.{is_matched}
 use Rattle.go_core.specs.Acts.{CanReadAhead}
-use Rattle.go_core.specs.Frame.{place, slot, head_in, archived_in, durable_in, released}
+use Rattle.go_core.specs.Frame.{Frame, place, slot, head_in, archived_in, durable_in, released}
 use Rattle.go_core.specs.View.{knowing_head, knowing_archived, knowing_durable, ending, read_ahead}
 use Rattle.go_core.specs.Rule.{IsWritten, IsSound}
 use Rattle.go_core.specs.Parts.{IsShardPlace, IsPinnedBy}
@@ -29,9 +29,9 @@ use Rattle.go_rule.specs.Views.{frame_of, with_head, with_archived, with_durable
 use Rattle.go_rule.specs.Rule.{IsBelow, cores, pins_at, IsRuled}
 use Rattle.go_rule.specs.Steps.{SeesOn, FrontIs, IsRead, LoadsHead, LoadsArchived, LoadsDurable, LoadsEnding, LoadsAhead, CanEnd}
 use Rattle.go_rule.proofs.Lists.{lookup_take, get_there, all_places}
-use Rattle.go_rule.proofs.Beside.{IsRuledSeat, core_there, allowed}
+use Rattle.go_rule.proofs.Beside.{IsRuledSeat, core_there, Beside, allowed}
 use Rattle.go_rule.proofs.Alone.{whole_log}
-use Rattle.go_rule.proofs.Renewals.{sees_on, read_beside, old_kept, told_now, told_to, seen_window, numbers_to, log_small}
+use Rattle.go_rule.proofs.Renewals.{sees_on, read_beside, renewed_sees, old_kept, told_now, seen_window, numbers_to, log_small}
 
 module _ {P : Type 0} (m : Meaning P) (laws : IsLasting m) (key : Key P) where
   module _ (s : State (Maybe P) (SeatView P)) (log : List Edge) (parts : List P) (i : ℕ) (d : SeatView P) (ruled : IsRuledSeat m key s log parts i d) where
@@ -47,6 +47,35 @@ module _ {P : Type 0} (m : Meaning P) (laws : IsLasting m) (key : Key P) where
           small = let few = log_small m laws key s log parts i d ruled in omega arith;
           whole = λ whole. let all = whole_log m laws key s log parts ruled.by i d ruled.there whole in omega arith;
         }
+
+    -- and what the seat sees by it
+    front_seen : (known n : ℕ) → known ≤ n → released s.words ≤ n → n ≤ length log
+        → SeesOn d.told.seen (take (max d.core.seen n) log) d.core.seen n × FrontIs (frame_of key) known d n
+    front_seen known n low above to = (
+      sees_on log d.told.seen d.core.seen n (told_now m laws key s log parts i d ruled).seen_is (numbers_to m laws key s log parts i d ruled).1 to,
+      front_is known n low above to,
+    )
+
+    -- a load of the archived front, and one of the durable front
+    archived_beside : Beside m laws key s log parts ruled.by i d ruled.there
+        (with_archived (archived_in s.words) (take (max d.core.seen (archived_in s.words)) log) d) (set s.words 1 (slice_index s.words 1)) []
+    archived_beside =
+        let core = knowing_archived (archived_in s.words) d.core in
+        read_beside m laws key s log parts i d ruled 1 core (record d.told { seen = take core.seen log })
+        (renewed_sees m laws key s log parts i d ruled core ruled.live
+        (archived_loaded (frame_of key) log s.words (cores s.views) i d.core (core_there m laws key s log parts ruled.by i d ruled.there) ruled.live
+        ruled.by.tied)
+        (λ p. omega arith) (λ role. (role, omega arith)) (λ place part at_place shard cut. ruled.by.held.kept place part at_place shard))
+
+    durable_beside : Beside m laws key s log parts ruled.by i d ruled.there
+        (with_durable (durable_in s.words) (take (max d.core.seen (durable_in s.words)) log) d) (set s.words 2 (slice_index s.words 2)) []
+    durable_beside =
+        let core = knowing_durable (durable_in s.words) d.core in
+        read_beside m laws key s log parts i d ruled 2 core (record d.told { seen = take core.seen log })
+        (renewed_sees m laws key s log parts i d ruled core ruled.live
+        (durable_loaded (frame_of key) log s.words (cores s.views) i d.core (core_there m laws key s log parts ruled.by i d ruled.there) ruled.live
+        ruled.by.tied)
+        (λ p. omega arith) (λ role. (role, omega arith)) (old_kept m laws key s log parts i d ruled))
 
     -- no pin of the seat is past the archived front
     pins_to : All (λ (x : PlacedPin). IsShardPlace (frame_of key) x.place → x.pin.front ≤ archived_in s.words) d.stake.pins
@@ -97,9 +126,10 @@ module _ {P : Type 0} (m : Meaning P) (laws : IsLasting m) (key : Key P) where
         d.core.loads core.reads
 
   module _ (slots id : ℕ) (me : Me (Maybe P) (SeatView P)) (live : me.0.core.live ≡ true) (step : Step (Maybe P)) where
-    pub head_allowed : Allows (IsRuled m key) slots id me 0 (λ n. n) (LoadsHead (frame_of key) step me)
-    head_allowed =
-        allowed m laws key slots id me live 0 (λ n. n) (LoadsHead (frame_of key) step me)
+    pub head_allowed : (f : Frame) → frame_of key ≡ f → Allows (IsRuled m key) slots id me 0 (λ n. n) (LoadsHead f step me)
+    head_allowed f picked =
+        subst (λ g. Allows (IsRuled m key) slots id me 0 (λ n. n) (LoadsHead g step me)) picked
+        (allowed m laws key slots id me live 0 (λ n. n) (LoadsHead (frame_of key) step me)
         (λ s log parts ruled small.
         let d = me.0 in
         let n = head_in s.words in
@@ -132,65 +162,41 @@ module _ {P : Type 0} (m : Meaning P) (laws : IsLasting m) (key : Key P) where
             small = let few = log_small m laws key s log parts id d ruled in omega arith;
             whole = λ whole. let all = whole_log m laws key s log parts ruled.by id d ruled.there whole in omega arith;
           },
-        ))
+        )))
 
-    pub archived_allowed : Allows (IsRuled m key) slots id me 1 (λ n. n) (LoadsArchived m.state_of (frame_of key) step me)
-    archived_allowed =
-        allowed m laws key slots id me live 1 (λ n. n) (LoadsArchived m.state_of (frame_of key) step me)
+    pub archived_allowed : (f : Frame) → frame_of key ≡ f → Allows (IsRuled m key) slots id me 1 (λ n. n) (LoadsArchived m.state_of f step me)
+    archived_allowed f picked =
+        subst (λ g. Allows (IsRuled m key) slots id me 1 (λ n. n) (LoadsArchived m.state_of g step me)) picked
+        (allowed m laws key slots id me live 1 (λ n. n) (LoadsArchived m.state_of (frame_of key) step me)
         (λ s log parts ruled small.
         let d = me.0 in
         let n = archived_in s.words in
-        let core = core_there m laws key s log parts ruled.by id d ruled.there in
-        let to = numbers_to m laws key s log parts id d ruled in
-        let up : n ≤ length log = ruled.by.tied.ringed.archived.to in (
+        let known = (numbers_to m laws key s log parts id d ruled).2 in
+        let told = front_seen s log parts id d ruled d.core.archived n known (omega arith) ruled.by.tied.ringed.archived.to in (
           with_archived n (take (max d.core.seen n) log) d,
           [],
-          read_beside m laws key s log parts id d ruled 1 (knowing_archived n d.core) (record d.told { seen = take (max d.core.seen n) log })
-              (record {
-                lives = live;
-                tied = archived_loaded (frame_of key) log s.words (cores s.views) id d.core core live ruled.by.tied;
-                less = λ p. omega arith;
-                goes_on = λ role. (role, omega arith);
-                told = told_to m laws key s log parts id d ruled (max d.core.seen n);
-                kept = λ place part at_place shard cut. ruled.by.held.kept place part at_place shard;
-              }),
+          archived_beside s log parts id d ruled,
           record {
             seen = take (max d.core.seen n) log;
             becomes = refl;
-            sees = sees_on log d.told.seen d.core.seen n (told_now m laws key s log parts id d ruled).seen_is to.1 up;
-            front = front_is s log parts id d ruled d.core.archived n to.2 (omega arith) up;
+            sees = told.0;
+            front = told.1;
             pins = pins_to s log parts id d ruled;
             cuts = cuts_to s log parts id d ruled;
           },
-        ))
+        )))
 
-    pub durable_allowed : Allows (IsRuled m key) slots id me 2 (λ n. n) (LoadsDurable (frame_of key) step me)
-    durable_allowed =
-        allowed m laws key slots id me live 2 (λ n. n) (LoadsDurable (frame_of key) step me)
+    pub durable_allowed : (f : Frame) → frame_of key ≡ f → Allows (IsRuled m key) slots id me 2 (λ n. n) (LoadsDurable f step me)
+    durable_allowed f picked =
+        subst (λ g. Allows (IsRuled m key) slots id me 2 (λ n. n) (LoadsDurable g step me)) picked
+        (allowed m laws key slots id me live 2 (λ n. n) (LoadsDurable (frame_of key) step me)
         (λ s log parts ruled small.
         let d = me.0 in
         let n = durable_in s.words in
-        let core = core_there m laws key s log parts ruled.by id d ruled.there in
-        let to = numbers_to m laws key s log parts id d ruled in
-        let up : n ≤ length log = ruled.by.tied.ringed.durable.to in (
-          with_durable n (take (max d.core.seen n) log) d,
-          [],
-          read_beside m laws key s log parts id d ruled 2 (knowing_durable n d.core) (record d.told { seen = take (max d.core.seen n) log })
-              (record {
-                lives = live;
-                tied = durable_loaded (frame_of key) log s.words (cores s.views) id d.core core live ruled.by.tied;
-                less = λ p. omega arith;
-                goes_on = λ role. (role, omega arith);
-                told = told_to m laws key s log parts id d ruled (max d.core.seen n);
-                kept = old_kept m laws key s log parts id d ruled;
-              }),
-          record {
-            seen = take (max d.core.seen n) log;
-            becomes = refl;
-            sees = sees_on log d.told.seen d.core.seen n (told_now m laws key s log parts id d ruled).seen_is to.1 up;
-            front = front_is s log parts id d ruled d.core.durable n to.3 (omega arith) up;
-          },
-        ))
+        let seen = take (max d.core.seen n) log in
+        let known = (numbers_to m laws key s log parts id d ruled).3 in
+        let told = front_seen s log parts id d ruled d.core.durable n known (omega arith) ruled.by.tied.ringed.durable.to in
+        (with_durable n seen d, [], durable_beside s log parts id d ruled, record { seen = seen; becomes = refl; sees = told.0; front = told.1 })))
 
     pub ending_allowed : (end : ℕ) → CanEnd key.layout.ring me.0 end →
         Allows (IsRuled m key) slots id me 2 (λ n. n) (LoadsEnding (frame_of key) end step me)
@@ -211,14 +217,9 @@ module _ {P : Type 0} (m : Meaning P) (laws : IsLasting m) (key : Key P) where
           with_ending n end (take k log) d,
           [],
           read_beside m laws key s log parts id d ruled 2 (ending n end d.core) (record d.told { seen = take k log })
-              (record {
-                lives = live;
-                tied = durable_ended (frame_of key) log s.words (cores s.views) id d.core end core live written ruled.by.tied;
-                less = λ p. omega arith;
-                goes_on = λ role. (role, omega arith);
-                told = told_to m laws key s log parts id d ruled k;
-                kept = old_kept m laws key s log parts id d ruled;
-              }),
+              (renewed_sees m laws key s log parts id d ruled (ending n end d.core) live
+              (durable_ended (frame_of key) log s.words (cores s.views) id d.core end core live written ruled.by.tied) (λ p. omega arith)
+              (λ role. (role, omega arith)) (old_kept m laws key s log parts id d ruled)),
           record {
             seen = take k log;
             becomes = refl;

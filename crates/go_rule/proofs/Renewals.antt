@@ -127,6 +127,13 @@ module _ {P : Type 0} (m : Meaning P) (laws : IsLasting m) (key : Key P) where
     pub told_to : (seen : ℕ) → IsTold log s.words seen (record d.told { seen = take seen log })
     told_to seen = let told = told_now in record { seen_is = refl; heard = told.heard; passed = told.passed; raised = told.raised }
 
+    -- so where it sees the log as far as its view says after a step that writes no word
+    pub renewed_sees : (core : View) → core.live ≡ true → TiedBy (frame_of key) log s.words (set (cores s.views) i core)
+        → ((p : ℕ) → unfilled p core ≤ unfilled p d.core) → GoesOn d.core core → Kept core.archived
+        → Renewed core (record d.told { seen = take core.seen log }) s.words
+    renewed_sees core lives tied less goes_on kept =
+        record { lives = lives; tied = tied; less = less; goes_on = goes_on; told = told_to core.seen; kept = kept }
+
     -- what it has seen lies within the slots past what is released
     pub seen_window : d.core.seen ≤ released s.words + key.layout.ring
     seen_window =

@@ -7,16 +7,22 @@ use Rattle.std.proofs.lemmas.List.Elements.{All-nil}
 use Rattle.go_core.specs.declared.part.PartState.{PartState}
 use Rattle.go_core.specs.Parts.{Reaches, no_mark}
 use Rattle.go_rule.specs.declared.layout.Key.{Key}
-use Rattle.go_rule.specs.Meaning.{Meaning, meaning}
+use Rattle.go_rule.specs.Meaning.{Meaning}
 use Rattle.go_rule.specs.Views.{opened_of}
 use Rattle.go_rule.specs.Rule.{IsBelow}
 use Rattle.go_rule.specs.Opening.{CanOpen, IsFirst, IsFirstShard, IsFirstFile}
 
 -- what a part means of which no more is known than its state
 abbrev pub plain_meaning : Meaning PartState
-plain_meaning = meaning (λ s. s) (λ s first log. Reaches s log) (λ s place shards vertices. place ≤ shards) (λ s front. (s.cut ≤ front)
-    × (front ≤ s.front)) (λ s. ⊥) (λ s. no_mark)
-    (λ s log vertices first mark. ⊤)
+plain_meaning = record {
+  state_of = λ s. s;
+  stands_for = λ s first log. Reaches s log;
+  fits = λ s place shards vertices. place ≤ shards;
+  keeps = λ s front. (s.cut ≤ front) × (front ≤ s.front);
+  is_spent = λ s. ⊥;
+  mark_of = λ s. no_mark;
+  recovers = λ s log vertices first mark. ⊤;
+}
 
 -- a part that has taken in nothing
 abbrev pub empty_part : PartState

@@ -1,6 +1,7 @@
 -- For callers: what a turn that was taken gives, and what has to be known of its part as it is given back.
 use Rattle.std.proofs.Common.{◌≡◌, ◌⊎◌, ℕ, List, [], ◌∷◌, drop, sym, ap, ◌∙◌, ⊎_elim, arith, subst}
 use Rattle.std.specs.Prelude.{Some, None, Option as Maybe}
+use Rattle.std.proofs.lemmas.Option.{same_Some}
 use Rattle.atomic_table.specs.Table.{Me, rest}
 use Rattle.go_core.specs.Frame.{Frame}
 use Rattle.go_rule.specs.declared.view.Note.{Note}
@@ -8,7 +9,7 @@ use Rattle.go_rule.specs.declared.view.SeatView.{SeatView}
 use Rattle.go_rule.specs.Meaning.{Meaning}
 use Rattle.go_rule.specs.Steps.{Becomes}
 use Rattle.go_rule.specs.Views.{with_unmoved}
-use Rattle.go_rule.specs.Turns.{taking, giving, TakesPart, CanGive, IsInSlot, HasPart, GivesPart}
+use Rattle.go_rule.specs.Turns.{taking, giving, IsTaken, TakesPart, CanGive, IsInSlot, HasPart, GivesPart}
 
 -- what stands first in a list, stands before its rest
 pub headed : {A : Type 0} (xs ys : List (ℕ × A)) (x : ℕ × A) → xs ≡ x ∷ ys → xs ≡ x ∷ rest xs
@@ -21,6 +22,11 @@ value_is a b xs ys zs one two = ap (first a) (sym one ∙ two)
     first : {A : Type 0} → A → List (ℕ × A) → A
     first z [] = z
     first z (x ∷ xs) = x.1
+
+-- what lies in a slot after two values were put in there
+pub put_in : {A V : Type 0} (now mid then : Me A V) {k : ℕ} {a b : A} → mid ≡ (now.0, (k, a) ∷ rest now.1) → then ≡ (mid.0, (k, b) ∷ rest mid.1)
+    → then ≡ (now.0, (k, b) ∷ rest now.1)
+put_in now mid then {k} {a} {b} one two = two ∙ ap (λ z. (z.0, (k, b) ∷ rest z.1)) one
 
 module _ {P : Type 0} (m : Meaning P) where
   -- where the turn word was 0, the part is the seat's
@@ -44,6 +50,15 @@ module _ {P : Type 0} (m : Meaning P) where
         is = record { noted = ap (λ z. z.stake.notes) is; once = t.free; slot = slot };
         can = subst (λ d. CanGive m f d place t.part new) (sym is) can;
       }
+
+  -- so a part that was taken and came out of its slot may be given back as the one that was put in there since, if that may be told of any such part
+  pub given_back : (f : Frame) (place : ℕ) (me now then : Me (Maybe P) (SeatView P)) (out : Maybe P) (found new : P) → TakesPart m f place me now
+      → now.1 ≡ (place, out) ∷ rest now.1 → out ≡ Some found → then ≡ (now.0, (place, Some new) ∷ rest now.1)
+      → ((old : P) → IsTaken m f me.0 place old → old ≡ found → CanGive m f (taking place old me.0) place old new) → HasPart m f place then
+  given_back f place me now then out found new t lay is put can =
+      let taken : Some t.part ≡ out = value_is (Some t.part) out now.1 _ _ (slot_taken f place me now t) lay in
+      let part : t.part ≡ found = same_Some t.part found (taken ∙ is) in
+      has_part f place me now then t new (ap (λ z. z.0) put) (headed then.1 _ (place, Some new) (ap (λ z. z.1) put)) (can t.part t.taken part)
 
   -- which part was given back is known by what was noted and what lay in the slot
   pub given_is : (place : ℕ) (then last : Me (Maybe P) (SeatView P)) → GivesPart m place then last → (old new : P) (older : List (Note P))

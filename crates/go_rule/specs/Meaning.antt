@@ -1,6 +1,7 @@
 -- What a part means to the rule, as one record.
 use Rattle.std.specs.Prelude.{ℕ, List, ◌++◌}
 use Rattle.go_word.specs.declared.edge.Edge.{Edge}
+use Rattle.go_core.specs.declared.part.Part.{Ghosts}
 use Rattle.go_core.specs.declared.part.PartState.{PartState}
 use Rattle.go_core.specs.Parts.{Mark}
 
@@ -14,16 +15,16 @@ pub record Meaning (P : Type 0) : Type 1 where
   pub mark_of : P → Mark
   pub recovers : P → List Edge → ℕ → ℕ → Mark → Type 0
 
-abbrev pub meaning : {P : Type 0} → (P → PartState) → (P → ℕ → List Edge → Type 0) → (P → ℕ → ℕ → ℕ → Type 0) → (P → ℕ → Type 0) → (P → Type 0)
-    → (P → Mark) → (P → List Edge → ℕ → ℕ → Mark → Type 0) → Meaning P
-meaning state_of stands_for fits keeps is_spent mark_of recovers = record {
-  state_of = state_of;
-  stands_for = stands_for;
-  fits = fits;
-  keeps = keeps;
-  is_spent = is_spent;
-  mark_of = mark_of;
-  recovers = recovers;
+-- those of a type that is a part
+abbrev pub meaning : {P : Type 0} → Ghosts P → Meaning P
+meaning part = record {
+  state_of = part.state_of;
+  stands_for = part.stands_for;
+  fits = part.fits;
+  keeps = part.keeps;
+  is_spent = part.is_spent;
+  mark_of = part.mark_of;
+  recovers = part.recovers;
 }
 
 -- the two laws that each part proves: what it stands for over a log, and what its images recover to, it does over each longer one

@@ -245,7 +245,7 @@ pub struct Take<E> {
 }
 
 impl<T: Part, E: Turn> Play<Option<T>, SeatView<T>> for Take<E> {
-    ghost then = { TakesTurn (meaning T.state_of T.stands_for T.fits T.keeps T.is_spent T.mark_of T.recovers) E.frame E.place };
+    ghost then = { TakesTurn (meaning T.Part) E.frame E.place };
 }
 
 /// A store by which a turn is given back, with its part.
@@ -254,5 +254,5 @@ pub struct Give<E> {
 }
 
 impl<T: Part, E: Turn> Play<Option<T>, SeatView<T>> for Give<E> {
-    ghost then = { GivesTurn (meaning T.state_of T.stands_for T.fits T.keeps T.is_spent T.mark_of T.recovers) E.place };
+    ghost then = { GivesTurn (meaning T.Part) E.place };
 }

@@ -20,7 +20,7 @@ impl<T: Part> TableRule<Option<T>, SeatView<T>, Key<T>> for GoRule<T> {
     ghost use Rattle.go_rule.specs.Rule.{IsRuled};
     ghost use Rattle.go_rule.specs.Views.{first_view};
 
-    ghost holds = { IsRuled (meaning T.state_of T.stands_for T.fits T.keeps T.is_spent T.mark_of T.recovers) };
+    ghost holds = { IsRuled (meaning T.Part) };
 
     ghost first = { λ key. first_view (T.mark_of key.file.value) key };
 }
@@ -95,7 +95,7 @@ impl<T: Part> Ring<T> {
     ) -> Result<Opened<T>, Unopened<T>>
         requires sizes { (0 < key.now.layout.ring) × (5 + key.now.layout.shards + key.now.layout.ring < 2 ^ 63) }
         requires words { AreOpening (frame_of key.now) words.now }
-        requires parts { CanOpen (meaning T.state_of T.stands_for T.fits T.keeps T.is_spent T.mark_of T.recovers) key.now slots.items }
+        requires parts { CanOpen (meaning T.Part) key.now slots.items }
         requires room { (spare.items ≡ []) × (key.now.layout.shards < vec_capacity spare) }
         ensures ok { IfOk result (λ o. (o.ring.table.shared.key ≡ key.now) × (o.seat.table_id ≡ o.ring.table.shared.table_id)) }
         ensures seat { IfOk result (λ o. o.seat.me ≡ (first_view (T.mark_of key.now.file.value) key.now, [])) }

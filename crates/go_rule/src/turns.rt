@@ -18,7 +18,7 @@ fn take_turn_as<T: Part, E: Turn>(ring: &Ring<T>, seat: &mut Seat<T>, place: u64
     requires picked { (frame_of ring.now.table.shared.key ≡ E.frame) × (place ≡ E.place) }
     requires within { place ≤ ring.now.shards }
     ensures stays { (seat.new.table_id ≡ seat.old.table_id) × (seat.new.id ≡ seat.old.id) }
-    ensures tells { TakesTurn (meaning T.state_of T.stands_for T.fits T.keeps T.is_spent T.mark_of T.recovers) (frame_of ring.now.table.shared.key) place
+    ensures tells { TakesTurn (meaning T.Part) (frame_of ring.now.table.shared.key) place
         (step ring.now.table.shared.table_id.slots (4 + place) 1 0 none) seat.old.me result seat.new.me }
 {
     ring.table
@@ -31,7 +31,7 @@ pub fn take_turn<T: Part>(ring: &Ring<T>, seat: &mut Seat<T>, place: u64) -> u64
     requires at_ring { IsAt ring.now.table.shared.table_id seat.old.table_id seat.old.me.0 }
     requires within { place ≤ ring.now.shards }
     ensures stays { (seat.new.table_id ≡ seat.old.table_id) × (seat.new.id ≡ seat.old.id) }
-    ensures tells { TakesTurn (meaning T.state_of T.stands_for T.fits T.keeps T.is_spent T.mark_of T.recovers) (frame_of ring.now.table.shared.key) place
+    ensures tells { TakesTurn (meaning T.Part) (frame_of ring.now.table.shared.key) place
         (step ring.now.table.shared.table_id.slots (4 + place) 1 0 none) seat.old.me result seat.new.me }
 {
     take_turn_as::<T, Brand>(ring, seat, place)
@@ -42,10 +42,10 @@ fn give_turn_as<T: Part, E: Turn>(ring: &Ring<T>, seat: &mut Seat<T>, place: u64
     requires at_ring { IsAt ring.now.table.shared.table_id seat.old.table_id seat.old.me.0 }
     requires picked { place ≡ E.place }
     requires within { place ≤ ring.now.shards }
-    requires has { HasPart (meaning T.state_of T.stands_for T.fits T.keeps T.is_spent T.mark_of T.recovers) (frame_of ring.now.table.shared.key) place
+    requires has { HasPart (meaning T.Part) (frame_of ring.now.table.shared.key) place
         seat.old.me }
     ensures stays { (seat.new.table_id ≡ seat.old.table_id) × (seat.new.id ≡ seat.old.id) }
-    ensures tells { GivesTurn (meaning T.state_of T.stands_for T.fits T.keeps T.is_spent T.mark_of T.recovers) place
+    ensures tells { GivesTurn (meaning T.Part) place
         (step ring.now.table.shared.table_id.slots (4 + place) 0 0 none) seat.old.me 0 seat.new.me }
 {
     ring.table
@@ -57,10 +57,10 @@ fn give_turn_as<T: Part, E: Turn>(ring: &Ring<T>, seat: &mut Seat<T>, place: u64
 pub fn give_turn<T: Part>(ring: &Ring<T>, seat: &mut Seat<T>, place: u64)
     requires at_ring { IsAt ring.now.table.shared.table_id seat.old.table_id seat.old.me.0 }
     requires within { place ≤ ring.now.shards }
-    requires has { HasPart (meaning T.state_of T.stands_for T.fits T.keeps T.is_spent T.mark_of T.recovers) (frame_of ring.now.table.shared.key) place
+    requires has { HasPart (meaning T.Part) (frame_of ring.now.table.shared.key) place
         seat.old.me }
     ensures stays { (seat.new.table_id ≡ seat.old.table_id) × (seat.new.id ≡ seat.old.id) }
-    ensures tells { GivesTurn (meaning T.state_of T.stands_for T.fits T.keeps T.is_spent T.mark_of T.recovers) place
+    ensures tells { GivesTurn (meaning T.Part) place
         (step ring.now.table.shared.table_id.slots (4 + place) 0 0 none) seat.old.me 0 seat.new.me }
 {
     give_turn_as::<T, Brand>(ring, seat, place)

@@ -20,7 +20,7 @@ take_all-parts-requires-clause-home g c k x there =
     let count = closed.ensures.counts.1 in
     let parts = ring.parts_is in
     let shards = ring.shards_is in
-    let left = final_left (meaning g.T.Part.state_of g.T.Part.stands_for g.T.Part.fits g.T.Part.keeps g.T.Part.is_spent g.T.Part.mark_of g.T.Part.recovers)
+    let left = final_left (meaning g.T.Part)
     (record { stands_on = g.met.T.Part.stands_on; recovers_on = g.met.T.Part.recovers_on }) ring.table.shared.key c.args.seat.id c.args.seat.me.0
     (slots_items closed.result.words) xs c.requires.whole c.requires.notes (omega arith) closed.ensures.values.2
     in
@@ -28,7 +28,7 @@ take_all-parts-requires-clause-home g c k x there =
 
 pub returns : goal.returns
 returns g c =
-    let m = meaning g.T.Part.state_of g.T.Part.stands_for g.T.Part.fits g.T.Part.keeps g.T.Part.is_spent g.T.Part.mark_of g.T.Part.recovers in
+    let m = meaning g.T.Part in
     let ring = c.args.ring in
     let key = ring.table.shared.key in
     let d = c.args.seat.me.0 in

@@ -11,7 +11,7 @@ use Rattle.go_rule.proofs.flags.abandon_as.Goals as goal
 
 pub load-requires : goal.load-requires
 load-requires g c =
-    let m = meaning g.T.Part.state_of g.T.Part.stands_for g.T.Part.fits g.T.Part.keeps g.T.Part.is_spent g.T.Part.mark_of g.T.Part.recovers in
+    let m = meaning g.T.Part in
     let t = c.args.ring.now.table.shared in
     let words = c.args.ring.now.words_is in
     let seat = c.args.seat.now in

@@ -13,7 +13,7 @@ store-requires g c =
     let seat = c.args.seat.now in (
       c.requires.at.0,
       omega arith,
-      raise_allowed (meaning g.T.Part.state_of g.T.Part.stands_for g.T.Part.fits g.T.Part.keeps g.T.Part.is_spent g.T.Part.mark_of g.T.Part.recovers)
+      raise_allowed (meaning g.T.Part)
           (record { stands_on = g.met.T.Part.stands_on; recovers_on = g.met.T.Part.recovers_on }) t.key t.table_id.slots seat.id seat.me c.requires.at.1
           (step t.table_id.slots 3 c.args.why 0 none) c.args.why c.requires.cause,
     )

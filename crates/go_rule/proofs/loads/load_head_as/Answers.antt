@@ -1,25 +1,17 @@
 -- `load_head_as`: the step keeps the rule, and tells by what the call picks.
-use Rattle.std.proofs.Common.{arith, subst}
+use Rattle.std.proofs.Common.{arith}
 use mathlib.Core.Option.{none}
-use Rattle.atomic_table.specs.Table.{step, Allows}
-use Rattle.go_core.specs.Frame.{Frame}
+use Rattle.atomic_table.specs.Table.{step}
 use Rattle.go_rule.specs.Meaning.{meaning}
-use Rattle.go_rule.specs.Rule.{IsRuled}
-use Rattle.go_rule.specs.Steps.{LoadsHead}
 use Rattle.go_rule.proofs.FrontLoads.{head_allowed}
 use Rattle.go_rule.proofs.loads.load_head_as.Goals as goal
 
 pub load-requires : goal.load-requires
 load-requires g c =
-    let m = meaning g.T.Part.state_of g.T.Part.stands_for g.T.Part.fits g.T.Part.keeps g.T.Part.is_spent g.T.Part.mark_of g.T.Part.recovers in
     let t = c.args.ring.now.table.shared in
-    let words = c.args.ring.now.words_is in
-    let seat = c.args.seat.now in
-    let say = step t.table_id.slots 0 0 0 none in
-    let kept = head_allowed m (record { stands_on = g.met.T.Part.stands_on; recovers_on = g.met.T.Part.recovers_on }) t.key t.table_id.slots seat.id seat.me
-    c.requires.at.1 say
-    in (
+    let seat = c.args.seat.now in (
       c.requires.at.0,
-      omega arith,
-      subst (λ (f : Frame). Allows (IsRuled m t.key) t.table_id.slots seat.id seat.me 0 (λ n. n) (LoadsHead f say seat.me)) c.requires.picked kept,
+      (let words = c.args.ring.now.words_is in omega arith),
+      head_allowed (meaning g.T.Part) (record { stands_on = g.met.T.Part.stands_on; recovers_on = g.met.T.Part.recovers_on }) t.key t.table_id.slots seat.id
+          seat.me c.requires.at.1 (step t.table_id.slots 0 0 0 none) g.E.Framed.frame c.requires.picked,
     )

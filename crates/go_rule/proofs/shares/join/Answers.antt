@@ -14,7 +14,7 @@ join_seat-requires g c =
       c.requires.other_at.0,
       c.requires.slots,
       omega arith,
-      join_allowed (meaning g.T.Part.state_of g.T.Part.stands_for g.T.Part.fits g.T.Part.keeps g.T.Part.is_spent g.T.Part.mark_of g.T.Part.recovers)
+      join_allowed (meaning g.T.Part)
           (record { stands_on = g.met.T.Part.stands_on; recovers_on = g.met.T.Part.recovers_on }) t.key seat.id other.id seat.me.0 other.me.0
           c.requires.at.1 c.requires.other_at.1
           c.requires.pending c.requires.notes,

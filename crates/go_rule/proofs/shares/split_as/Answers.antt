@@ -11,7 +11,7 @@ split_seat-requires g c =
     let seat = c.args.seat.now in (
       c.requires.at.0,
       omega arith,
-      split_allowed (meaning g.T.Part.state_of g.T.Part.stands_for g.T.Part.fits g.T.Part.keeps g.T.Part.is_spent g.T.Part.mark_of g.T.Part.recovers)
+      split_allowed (meaning g.T.Part)
           (record { stands_on = g.met.T.Part.stands_on; recovers_on = g.met.T.Part.recovers_on }) t.key seat.id seat.me.0 g.E.Shares.quota g.E.Shares.lot
           c.requires.at.1
           c.requires.quota c.requires.some c.requires.lot,

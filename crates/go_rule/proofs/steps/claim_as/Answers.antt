@@ -17,7 +17,7 @@ fetch_add-requires g c =
     let picked = c.requires.picked in (
       c.requires.at.0,
       omega arith,
-      claim_allowed (meaning g.T.Part.state_of g.T.Part.stands_for g.T.Part.fits g.T.Part.keeps g.T.Part.is_spent g.T.Part.mark_of g.T.Part.recovers)
+      claim_allowed (meaning g.T.Part)
           (record { stands_on = g.met.T.Part.stands_on; recovers_on = g.met.T.Part.recovers_on }) t.key t.table_id.slots seat.id seat.me c.requires.at.1
           (step t.table_id.slots 0 (length c.args.edges.now) 0 none) es (length c.args.edges.now) (ap length picked)
           (subst (All IsStorable) picked c.requires.storable) (subst (All (IsBelow t.key.layout.vertices)) picked c.requires.below)

@@ -10,24 +10,17 @@ use Rattle.go_rule.proofs.turns.give_turn_as.Goals as goal
 
 pub store-requires : goal.store-requires
 store-requires g c =
-    let m = meaning g.T.Part.state_of g.T.Part.stands_for g.T.Part.fits g.T.Part.keeps g.T.Part.is_spent g.T.Part.mark_of g.T.Part.recovers in
+    let m = meaning g.T.Part in
     let ring = c.args.ring.now in
     let t = ring.table.shared in
-    let words = ring.words_is in
     let shards = ring.shards_is in
-    let parts = ring.parts_is in
-    let seat = c.args.seat.now in
-    let place = c.args.place in
     let few = c.requires.within in
-    let within : place ≤ t.key.layout.shards = omega arith in
-    let there : 4 + place < t.table_id.words = omega arith in
-    let all : t.table_id.slots ≡ t.key.layout.shards + 1 = omega arith in
-    let say = step t.table_id.slots (4 + place) 0 0 none in
-    let kept = give_allowed m (record { stands_on = g.met.T.Part.stands_on; recovers_on = g.met.T.Part.recovers_on }) t.key t.table_id.slots seat.id all
-    seat.me c.requires.at_ring.1 say place within c.requires.has
-    in (
+    let seat = c.args.seat.now in
+    let say = step t.table_id.slots (4 + c.args.place) 0 0 none in (
       c.requires.at_ring.0,
-      there,
-      subst (λ (p : ℕ). Allows (IsRuled m t.key) t.table_id.slots seat.id seat.me (4 + place) (λ _. 0) (λ _. GivesTurn m p say seat.me 0)) c.requires.picked
-          kept,
+      (let words = ring.words_is in omega arith),
+      subst (λ (p : ℕ). Allows (IsRuled m t.key) t.table_id.slots seat.id seat.me (4 + c.args.place) (λ _. 0) (λ _. GivesTurn m p say seat.me 0))
+          c.requires.picked
+          (give_allowed m (record { stands_on = g.met.T.Part.stands_on; recovers_on = g.met.T.Part.recovers_on }) t.key t.table_id.slots seat.id
+          (let parts = ring.parts_is in omega arith) seat.me c.requires.at_ring.1 say c.args.place (omega arith) c.requires.has),
     )

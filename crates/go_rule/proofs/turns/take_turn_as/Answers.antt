@@ -12,24 +12,18 @@ use Rattle.go_rule.proofs.turns.take_turn_as.Goals as goal
 
 pub swap-requires : goal.swap-requires
 swap-requires g c =
-    let m = meaning g.T.Part.state_of g.T.Part.stands_for g.T.Part.fits g.T.Part.keeps g.T.Part.is_spent g.T.Part.mark_of g.T.Part.recovers in
     let ring = c.args.ring.now in
-    let t = ring.table.shared in
-    let words = ring.words_is in
     let shards = ring.shards_is in
-    let seat = c.args.seat.now in
-    let place = c.args.place in
     let few = c.requires.within in
-    let within : place ≤ t.key.layout.shards = omega arith in
-    let there : 4 + place < t.table_id.words = omega arith in
-    let say = step t.table_id.slots (4 + place) 1 0 none in
-    let kept = take_allowed m (record { stands_on = g.met.T.Part.stands_on; recovers_on = g.met.T.Part.recovers_on }) t.key t.table_id.slots seat.id seat.me
-    c.requires.at_ring.1 say place within
-    in (
+    let t = ring.table.shared in
+    let seat = c.args.seat.now in
+    let m = meaning g.T.Part in
+    let say = step t.table_id.slots (4 + c.args.place) 1 0 none in
+    let told = λ (f : Frame) (p : ℕ). Allows (IsRuled m t.key) t.table_id.slots seat.id seat.me (4 + c.args.place) (λ _. 1) (TakesTurn m f p say seat.me) in (
       c.requires.at_ring.0,
-      there,
-      subst (λ (f : Frame). Allows (IsRuled m t.key) t.table_id.slots seat.id seat.me (4 + place) (λ _. 1) (TakesTurn m f g.E.Turn.place say seat.me))
-          c.requires.picked.0
-          (subst (λ (p : ℕ). Allows (IsRuled m t.key) t.table_id.slots seat.id seat.me (4 + place) (λ _. 1) (TakesTurn m (frame_of t.key) p say seat.me))
-          c.requires.picked.1 kept),
+      (let words = ring.words_is in omega arith),
+      subst (λ f. told f g.E.Turn.place) c.requires.picked.0
+          (subst (told (frame_of t.key)) c.requires.picked.1
+          (take_allowed m (record { stands_on = g.met.T.Part.stands_on; recovers_on = g.met.T.Part.recovers_on }) t.key t.table_id.slots seat.id seat.me
+          c.requires.at_ring.1 say c.args.place (omega arith))),
     )

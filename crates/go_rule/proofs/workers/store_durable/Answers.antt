@@ -11,12 +11,10 @@ pub store-requires : goal.store-requires
 store-requires g c =
     let ring = c.args.ring.now in
     let t = ring.table.shared in
-    let words = ring.words_is in
-    let seat = c.args.seat.now in
-    let front = c.args.front in (
+    let seat = c.args.seat.now in (
       c.requires.at.0,
-      omega arith,
-      flush_allowed (meaning g.T.Part.state_of g.T.Part.stands_for g.T.Part.fits g.T.Part.keeps g.T.Part.is_spent g.T.Part.mark_of g.T.Part.recovers)
-          (record { stands_on = g.met.T.Part.stands_on; recovers_on = g.met.T.Part.recovers_on }) t.key t.table_id.slots seat.id seat.me c.requires.at.1
-          (step t.table_id.slots 2 front 0 none) front (subst (λ (n : ℕ). CanFlushTo n seat.me.0 front) ring.shards_is c.requires.can),
+      (let words = ring.words_is in omega arith),
+      flush_allowed (meaning g.T.Part) (record { stands_on = g.met.T.Part.stands_on; recovers_on = g.met.T.Part.recovers_on }) t.key t.table_id.slots
+          seat.id seat.me c.requires.at.1 (step t.table_id.slots 2 c.args.front 0 none) c.args.front
+          (subst (λ (n : ℕ). CanFlushTo n seat.me.0 c.args.front) ring.shards_is c.requires.can),
     )

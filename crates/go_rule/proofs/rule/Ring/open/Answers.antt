@@ -5,6 +5,6 @@ use Rattle.go_rule.proofs.rule.Ring.open.Goals as goal
 
 pub new-requires : goal.new-requires
 new-requires g c =
-    opening_ruled (meaning g.T.Part.state_of g.T.Part.stands_for g.T.Part.fits g.T.Part.keeps g.T.Part.is_spent g.T.Part.mark_of g.T.Part.recovers)
+    opening_ruled (meaning g.T.Part)
     c.args.key.now c.args.words.now
     c.args.slots.items c.requires.sizes.0 c.requires.words c.requires.parts
