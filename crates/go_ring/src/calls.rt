@@ -150,6 +150,6 @@ pub trait RingCalls<T: Part> {
         requires at { IsAt (table self) seat.table_id seat.me.0 }
         requires whole { seat.me.0.share.lot ≡ 2 ^ 32 }
         requires notes { seat.me.0.stake.notes ≡ [] }
-        ensures left { IsClosed (meaning T.state_of T.stands_for T.fits T.keeps T.is_spent T.mark_of T.recovers)
+        ensures left { IsClosed (meaning T.Part)
             (key self) seat.me.0 result.parts.items result.head result.archived result.durable };
 }

@@ -64,7 +64,7 @@ pub fn open<T: Part>(
     requires sizes { (0 < layout.ring) × (first + layout.ring ≤ 2 ^ 48) }
     requires count { length parts.items ≡ layout.shards + 1 }
     requires parts { (key : RingKey T) → IsKeyOf layout first quota opened.value.items parts.items key →
-        CanOpen (meaning T.state_of T.stands_for T.fits T.keeps T.is_spent T.mark_of T.recovers) key (map Some parts.items) }
+        CanOpen (meaning T.Part) key (map Some parts.items) }
     ensures key { IfOk result (λ o. IsKeyOf layout first quota opened.value.items parts.items o.ring.table.shared.key) }
     ensures at { IfOk result (λ o. o.seat.table_id ≡ o.ring.table.shared.table_id) }
     ensures seat { IfOk result (λ o. o.seat.me ≡ (first_view (T.mark_of o.ring.table.shared.key.file.value) o.ring.table.shared.key, [])) }

@@ -161,7 +161,7 @@ impl<T: Part> RingCalls<T> for Ring<T> {
         requires at { IsAt self.table.shared.table_id seat.table_id seat.me.0 }
         requires whole { seat.me.0.share.lot ≡ 2 ^ 32 }
         requires notes { seat.me.0.stake.notes ≡ [] }
-        ensures left { IsClosed (meaning T.state_of T.stands_for T.fits T.keeps T.is_spent T.mark_of T.recovers)
+        ensures left { IsClosed (meaning T.Part)
             self.table.shared.key seat.me.0 result.parts.items result.head result.archived result.durable }
     {
         go_rule::close(self, seat)

@@ -19,7 +19,7 @@ open-requires-clause-parts g c =
       opened = c.args.opened;
       file = c.of.result;
     } in
-    let m = meaning g.T.Part.state_of g.T.Part.stands_for g.T.Part.fits g.T.Part.keeps g.T.Part.is_spent g.T.Part.mark_of g.T.Part.recovers in
+    let m = meaning g.T.Part in
     subst (λ (xs : List (Maybe g.row.T.Denot)). CanOpen m key xs) (sym c.put_in.ensures.slots)
     (c.requires.parts key
     (record { layout_is = refl; first_is = refl; quota_is = refl; opened_is = refl; file_is = file ∙ ap (λ z. Some z) (sym c.of.ensures) }))
