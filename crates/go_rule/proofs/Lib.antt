@@ -17,6 +17,7 @@ pub mod Takings
 pub mod Turning
 pub mod TurnTakes
 pub mod TurnPins
+pub mod GivenParts
 pub mod TurnGives
 pub mod TurnCalls
 pub mod TurnSamples

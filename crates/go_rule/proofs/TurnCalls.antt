@@ -38,6 +38,12 @@ module _ {P : Type 0} (m : Meaning P) where
   pub slot_taken : (f : Frame) (place : ℕ) (me now : Me (Maybe P) (SeatView P)) (t : TakesPart m f place me now) → now.1 ≡ (place, Some t.part) ∷ rest now.1
   slot_taken f place me now t = headed now.1 me.1 (place, Some t.part) (ap (λ z. z.1) t.becomes)
 
+  -- so that slot holds something
+  pub lies_in : (f : Frame) (place : ℕ) (me : Me (Maybe P) (SeatView P)) (n : ℕ) (now : Me (Maybe P) (SeatView P))
+      → ((n ≡ 0) × TakesPart m f place me now) ⊎ ((n ≡ 1) × Becomes (with_unmoved me.0) me now) → n ≡ 0
+      → (x : Maybe P) × (now.1 ≡ (place, x) ∷ rest now.1)
+  lies_in f place me n now takes none = let t = part_taken f place me n now takes none in (Some t.part, slot_taken f place me now t)
+
   -- another part was put into that slot since, as which it may be given back
   pub has_part : (f : Frame) (place : ℕ) (me now then : Me (Maybe P) (SeatView P)) (t : TakesPart m f place me now) (new : P) → then.0 ≡ now.0
       → then.1 ≡ (place, Some new) ∷ rest then.1 → CanGive m f (taking place t.part me.0) place t.part new → HasPart m f place then

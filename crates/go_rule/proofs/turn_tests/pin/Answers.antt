@@ -5,17 +5,17 @@ use Rattle.std.proofs.lemmas.List.{nil_from_length}
 use Rattle.go_core.specs.declared.part.PartState.{PartState}
 use Rattle.go_rule.specs.Views.{frame_of}
 use Rattle.go_rule.proofs.Samples.{plain_meaning}
-use Rattle.go_rule.proofs.TurnCalls.{part_taken, slot_taken, put_in, given_back}
+use Rattle.go_rule.proofs.TurnCalls.{part_taken, lies_in, put_in, given_back}
 use Rattle.go_rule.proofs.TurnSamples.{same_can, one_can}
 use Rattle.go_rule.proofs.turn_tests.pin.Goals.{then-count-eq0+in_ok-part, else-count-eq0}
 use Rattle.go_rule.proofs.turn_tests.pin.Goals as goal
 
 pub exchange-requires : goal.exchange-requires
-exchange-requires c =
-    let f = frame_of c.args.ring.now.table.shared.key in
-    let now = c.take_turn.new.seat.me in
-    let t = part_taken plain_meaning f c.args.place c.args.seat.now.me c.take_turn.result now c.take_turn.ensures.tells (omega arith) in
-    (c.take_turn.ensures.stays.0 ∙ c.requires.at.0, (Some t.part, slot_taken plain_meaning f c.args.place c.args.seat.now.me now t))
+exchange-requires c = (
+  c.take_turn.ensures.stays.0 ∙ c.requires.at.0,
+  lies_in plain_meaning (frame_of c.args.ring.now.table.shared.key) c.args.place c.args.seat.now.me c.take_turn.result c.take_turn.new.seat.me
+      c.take_turn.ensures.tells (omega arith),
+)
 
 pub give_turn-requires-clause-has : goal.give_turn-requires-clause-has
 give_turn-requires-clause-has c =

@@ -10,11 +10,10 @@ use Rattle.go_rule.proofs.workers.store_archived.Goals as goal
 pub store-requires : goal.store-requires
 store-requires g c =
     let ring = c.args.ring.now in
-    let t = ring.table.shared in
-    let seat = c.args.seat.now in (
+    let t = ring.table.shared in (
       c.requires.at.0,
       (let words = ring.words_is in omega arith),
       archive_allowed (meaning g.T.Part) (record { stands_on = g.met.T.Part.stands_on; recovers_on = g.met.T.Part.recovers_on }) t.key t.table_id.slots
-          seat.id seat.me c.requires.at.1 (step t.table_id.slots 1 c.args.front 0 none) c.args.front
-          (subst (λ (n : ℕ). CanArchiveTo n seat.me.0 c.args.front) ring.shards_is c.requires.can),
+          c.args.seat.now.id c.args.seat.now.me c.requires.at.1 (step t.table_id.slots 1 c.args.front 0 none) c.args.front
+          (subst (λ (n : ℕ). CanArchiveTo n c.args.seat.now.me.0 c.args.front) ring.shards_is c.requires.can),
     )
