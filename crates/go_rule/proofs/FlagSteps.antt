@@ -3,8 +3,6 @@ use Rattle.std.proofs.Common.{◌≡◌, ℕ, ◌+◌, ◌^◌, ◌<◌, ◌≤�
 use Rattle.std.specs.Prelude.{Contains, slice_index, count_by, nat_lt, ◌||◌, Option as Maybe}
 use Rattle.std.proofs.lemmas.Bool.{cases_Bool, or_cases}
 use Rattle.std.proofs.lemmas.Bool.Decides.{nat_tests}
-use mathlib.Core.Option.{some}
-use lib.ListN.{get_elem?}
 use Rattle.atomic_table.specs.Table.{State, Step, Allows, Me}
 use Rattle.go_word.specs.declared.edge.Edge.{Edge}
 use Rattle.go_core.specs.declared.entry.Entry.{Entry}

@@ -1,5 +1,5 @@
 -- The parts of a ring after one of them was given back: each is as it has to be, and what seats know of them lasts.
-use Rattle.std.proofs.Common.{◌≡◌, ◌≢◌, ◌⊎◌, ℕ, ◌+◌, ◌<◌, ◌≤◌, true, false, List, ◌++◌, length, set, take, drop, sym, refl, ap, ◌∙◌, inl, inr}
+use Rattle.std.proofs.Common.{◌≡◌, ◌⊎◌, ℕ, ◌<◌, ◌≤◌, false, List, ◌++◌, length, set, take, drop, sym, refl, ap, ◌∙◌, inl, inr}
 use Rattle.std.proofs.Common.{⊎_elim, arith, subst}
 use Rattle.std.specs.Prelude.{All, Some, slice_get, find, is_some, max, ◌==◌, Option as Maybe}
 use Rattle.std.proofs.lemmas.Bool.{cases_eq, true≢false}

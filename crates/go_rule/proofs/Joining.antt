@@ -13,11 +13,10 @@ use Rattle.go_word.specs.declared.edge.Edge.{Edge}
 use Rattle.go_core.specs.declared.view.View.{View}
 use Rattle.go_core.specs.View.{unfilled, spent}
 use Rattle.go_core.specs.Rule.{owed, IsWritten, TiedBy}
-use Rattle.go_core.specs.Parts.{IsReached, IsPinnedBy}
+use Rattle.go_core.specs.Parts.{IsReached}
 use Rattle.go_core.proofs.Totals.{total-set}
 use Rattle.go_core.proofs.Lookups.{lookup-set, lookup-set_other}
 use Rattle.go_core.proofs.Onward.{written_same}
-use Rattle.go_core.proofs.Claims.{All-lookup}
 use Rattle.go_core.proofs.Loads.{still_live}
 use Rattle.go_core.proofs.Splits.{join_keeps, total_joined, joined_unfilled}
 use Rattle.go_core.proofs.Parted.{reached_set}

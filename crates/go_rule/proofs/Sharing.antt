@@ -10,7 +10,6 @@ use lib.ListN.{get_elem?}
 use Rattle.atomic_table.specs.Table.{State, Splits}
 use Rattle.go_word.specs.declared.edge.Edge.{Edge}
 use Rattle.go_core.specs.declared.view.View.{View}
-use Rattle.go_core.specs.Frame.{archived_in, durable_in}
 use Rattle.go_core.specs.View.{unfilled}
 use Rattle.go_core.specs.Rule.{owed, IsWritten, TiedBy}
 use Rattle.go_core.specs.Parts.{IsReached, IsTurn, IsPinnedBy}

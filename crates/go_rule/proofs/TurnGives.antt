@@ -1,5 +1,5 @@
 -- A turn is given back with its part, which is a lawful successor of what was taken: the rule is kept.
-use Rattle.std.proofs.Common.{◌≡◌, ◌≢◌, ◌⊎◌, ℕ, ◌+◌, ◌≤◌, true, false, List, [], length, set, sym, refl, ap, ◌∙◌}
+use Rattle.std.proofs.Common.{◌≡◌, ◌≢◌, ℕ, ◌+◌, ◌≤◌, true, false, List, [], length, set, sym, refl, ap, ◌∙◌}
 use Rattle.std.proofs.Common.{⊎_elim, arith, subst}
 use Rattle.std.specs.Prelude.{All, Contains, Some, slice_get, slice_index, find, is_some, ◌==◌, Option as Maybe}
 use Rattle.std.proofs.lemmas.Bool.{cases_Bool, cases_eq}

@@ -5,8 +5,7 @@ use Rattle.std.specs.Prelude.{All, Some, slice_get, slice_index, find, is_some, 
 use Rattle.std.proofs.lemmas.Bool.{cases_eq}
 use Rattle.std.proofs.lemmas.List.{length-take-le, take-append-drop}
 use Rattle.std.proofs.lemmas.List.Elements.{All-cons, All-weaker}
-use mathlib.Core.Option.{none, some}
-use lib.ListN.{get_elem?}
+use mathlib.Core.Option.{none}
 use Rattle.atomic_table.specs.Table.{State, Step, Me, Allows, keeps, takes}
 use Rattle.go_word.specs.declared.edge.Edge.{Edge}
 use Rattle.go_core.specs.Frame.{archived_in}

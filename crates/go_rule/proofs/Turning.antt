@@ -1,5 +1,5 @@
 -- A step on a turn word: what it keeps of the parts, of turns and homes and of the pins, it keeps of the whole rule.
-use Rattle.std.proofs.Common.{◌≡◌, ℕ, ◌+◌, ◌<◌, ◌≤◌, true, List, [], length, set, sym, ◌∙◌, ⊎_elim, arith, subst, append-nil}
+use Rattle.std.proofs.Common.{◌≡◌, ℕ, ◌+◌, ◌<◌, ◌≤◌, List, [], length, set, sym, ◌∙◌, ⊎_elim, arith, subst, append-nil}
 use Rattle.std.specs.Prelude.{Some, slice_get, slice_index, sum_by, Option as Maybe}
 use Rattle.std.proofs.lemmas.List.{map-set}
 use mathlib.Core.Option.{Option, some}

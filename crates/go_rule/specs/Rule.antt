@@ -7,7 +7,7 @@ use Rattle.atomic_table.specs.Table.{State}
 use Rattle.go_word.specs.declared.edge.Edge.{Edge}
 use Rattle.go_word.specs.declared.pin.Pin.{Pin}
 use Rattle.go_core.specs.declared.view.View.{View}
-use Rattle.go_core.specs.Frame.{Frame, archived_in, durable_in, flag_in, released}
+use Rattle.go_core.specs.Frame.{Frame, archived_in, flag_in, released}
 use Rattle.go_core.specs.Rule.{IsWritten, TiedBy}
 use Rattle.go_core.specs.Parts.{ArePartsOf, IsShardPlace, IsFilePlace, IsTurn, ArePinned}
 use Rattle.go_rule.specs.declared.layout.Key.{Key}

@@ -1,6 +1,5 @@
 -- `bring_on`: the shard that was taken is given back lawfully.
-use Rattle.std.proofs.Common.{◌≡◌, ap, ◌∙◌, sym, refl, arith}
-use Rattle.std.specs.Prelude.{Some}
+use Rattle.std.proofs.Common.{ap, ◌∙◌, sym, refl, arith}
 use Rattle.go_core.specs.declared.part.PartState.{PartState}
 use Rattle.go_rule.specs.Views.{frame_of}
 use Rattle.go_rule.proofs.Samples.{plain_meaning}

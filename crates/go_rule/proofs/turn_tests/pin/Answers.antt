@@ -1,6 +1,5 @@
 -- `pin`: the part that was taken is given back lawfully.
 use Rattle.std.proofs.Common.{◌≡◌, [], length, ap, ◌∙◌, sym, arith}
-use Rattle.std.specs.Prelude.{Some}
 use Rattle.std.proofs.lemmas.List.{nil_from_length}
 use Rattle.go_core.specs.declared.part.PartState.{PartState}
 use Rattle.go_rule.specs.Views.{frame_of}
@@ -19,12 +18,12 @@ exchange-requires c = (
 
 pub give_turn-requires-clause-has : goal.give_turn-requires-clause-has
 give_turn-requires-clause-has c =
+    let new : PartState = c.if-count-eq0.part in
+    let me = c.args.seat.now.me in
     let shards = c.args.ring.now.shards_is in
     let shard = c.requires.shard in
-    let me = c.args.seat.now.me in
     let f = frame_of c.args.ring.now.table.shared.key in
     let now = c.take_turn.new.seat.me in
-    let new : PartState = c.if-count-eq0.part in
     let out = c.exchange.ensures in
     given_back plain_meaning f c.args.place me now c.exchange-left.new.seat.me c.exchange.result c.in-Some.part new
     (part_taken plain_meaning f c.args.place me c.take_turn.result now c.take_turn.ensures.tells (omega arith)) out.2 c.in-Some.is

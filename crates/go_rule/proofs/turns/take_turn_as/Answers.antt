@@ -1,5 +1,5 @@
 -- `take_turn_as`: the step keeps the rule, and tells by what the call picks.
-use Rattle.std.proofs.Common.{ℕ, ◌+◌, ◌<◌, ◌≤◌, arith, subst}
+use Rattle.std.proofs.Common.{ℕ, ◌+◌, arith, subst}
 use mathlib.Core.Option.{none}
 use Rattle.atomic_table.specs.Table.{step, Allows}
 use Rattle.go_core.specs.Frame.{Frame}
