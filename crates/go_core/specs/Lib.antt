@@ -1,6 +1,7 @@
 -- The definitions of the ring's rule and of the machine that keeps it.
 pub mod Acts
 pub mod Frame
+pub mod Fronts
 pub mod History
 pub mod Machine
 pub mod Opening

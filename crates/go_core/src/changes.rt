@@ -25,12 +25,11 @@ ghost use Rattle.go_core.specs.View.{
   stored,
   took as took_view,
   read_ahead as read_ahead_view,
-  archiving,
-  flushing,
   raising,
   split_off as split_off_view,
   joining,
 };
+ghost use Rattle.go_core.specs.Fronts.{knowing_front, moving_front};
 ghost use Rattle.go_core.specs.Opening.{opening_view, archives_as, flushes_as};
 
 use crate::act::Role;
@@ -150,6 +149,23 @@ impl View {
         Ok(())
     }
 
+    // A load of a front.
+    pub(crate) fn know_front(
+        &mut self,
+        alloc: Global,
+        shard: bool,
+        front: u64,
+    ) -> Result<(), AllocError>
+        ensures ok { OnOk result (self.new ≡ knowing_front shard front self.old) }
+        ensures err { OnErr result (self.new ≡ self.old) }
+    {
+        if shard {
+            self.know_archived(alloc, front)
+        } else {
+            self.know_durable(alloc, front)
+        }
+    }
+
     // A store of the word of a pending entry.
     pub(crate) fn store(&mut self, entry: Entry) -> Result<(), AllocError>
         ensures ok { OnOk result (self.new ≡ stored entry self.old) }
@@ -171,11 +187,15 @@ impl View {
         self.fresh = false;
     }
 
-    // A store of the archived front.
-    pub(crate) fn archive(&mut self, front: u64)
-        ensures { self.new ≡ archiving front self.old }
+    // A store of a front.
+    pub(crate) fn move_front(&mut self, shard: bool, front: u64)
+        ensures { self.new ≡ moving_front shard front self.old }
     {
-        self.archived = front;
+        if shard {
+            self.archived = front;
+        } else {
+            self.durable = front;
+        }
         self.fresh = false;
     }
 
@@ -192,14 +212,6 @@ impl View {
         self.loads.push_back(load)?;
         self.fresh = false;
         Ok(())
-    }
-
-    // A store of the durable front.
-    pub(crate) fn flush(&mut self, front: u64)
-        ensures { self.new ≡ flushing front self.old }
-    {
-        self.durable = front;
-        self.fresh = false;
     }
 
     // A store of the flag.

@@ -3,6 +3,7 @@ ghost use Rattle.std.specs.Prelude.{◌≡◌, ◌↔◌, ◌<◌, ◌≤◌, Is
 ghost use Rattle.go_word.specs.Word.{IsStorable};
 ghost use Rattle.go_core.specs.Acts.{CanClaim, CanTake, CanReadAhead, CanArchive, CanFlush, HasStood, CanTakeTurn};
 ghost use Rattle.go_core.specs.Acts.{HasAtHome, HasOut, IsLawful, IsCause, CanJoin, IsSession, HasNoTurn};
+ghost use Rattle.go_core.specs.Fronts.{CanMove};
 ghost use Rattle.go_core.specs.Machine.{absent};
 
 use crate::home::Parts;
@@ -71,7 +72,7 @@ pub(crate) fn can_take(words: &[u64], view: &View, at: u64) -> bool
 }
 
 // Whether the archived front may be moved.
-pub(crate) fn can_archive(words: &[u64], view: &View, front: u64) -> bool
+fn can_archive(words: &[u64], view: &View, front: u64) -> bool
     requires { 4 ≤ length words.now }
     ensures { IsTrue result ↔ CanArchive words.now view.now front }
 {
@@ -79,11 +80,23 @@ pub(crate) fn can_archive(words: &[u64], view: &View, front: u64) -> bool
 }
 
 // Whether the durable front may be moved.
-pub(crate) fn can_flush(words: &[u64], view: &View, front: u64) -> bool
+fn can_flush(words: &[u64], view: &View, front: u64) -> bool
     requires { 4 ≤ length words.now }
     ensures { IsTrue result ↔ CanFlush words.now view.now front }
 {
     view.flushes && words[DURABLE] <= front && front <= view.taken
+}
+
+// Whether a front may be moved.
+pub(crate) fn can_move(shard: bool, words: &[u64], view: &View, front: u64) -> bool
+    requires { 4 ≤ length words.now }
+    ensures { IsTrue result ↔ CanMove shard words.now view.now front }
+{
+    if shard {
+        can_archive(words, view, front)
+    } else {
+        can_flush(words, view, front)
+    }
 }
 
 // Whether a part is known to have stood at a front or above it.

@@ -1,4 +1,4 @@
-// The acts of a copy of what is newest: a word read ahead, and the durable front that makes it sure.
+// The act of a copy of what is newest: a word read ahead.
 ghost use Rattle.std.specs.Prelude.{
   ◌≡◌,
   ℕ,
@@ -10,34 +10,14 @@ ghost use Rattle.std.specs.Prelude.{
   IfOk,
   OnErr,
 };
-ghost use Rattle.go_core.specs.declared.act.Act.TheVariants.{LoadDurable, LoadTentative};
+ghost use Rattle.go_core.specs.declared.act.Act.TheVariants.{LoadTentative};
 ghost use Rattle.go_core.specs.declared.home.Parts.{Parts};
 ghost use Rattle.go_core.specs.Machine.{Row, machine_of, IsLiveAt};
 
 use crate::act::Out;
 use crate::party::Party;
-use crate::words::DURABLE;
 use crate::{conditions, steps};
-use std::alloc::{AllocError, Global};
-
-// A load of the durable front.
-pub(crate) fn load_durable(
-    alloc: Global,
-    words: &[u64],
-    parties: &mut Vec<Party>,
-    i: usize,
-) -> Result<Out, AllocError>
-    requires words { 4 ≤ length words.now }
-    requires live { IsLiveAt parties.old.items i }
-    ensures row { IfOk result (λ out. (slots first : ℕ) (parts : Parts) →
-        Row (machine_of slots first words.now parties.old.items parts) i LoadDurable out (machine_of slots first words.now parties.new.items parts)) }
-    ensures err { OnErr result (parties.new.items ≡ parties.old.items) }
-{
-    let front = words[DURABLE];
-    let party = &mut parties[i];
-    party.view.know_durable(alloc, front)?;
-    Ok(Out::Number { value: front })
-}
+use std::alloc::AllocError;
 
 // A word read ahead of its turn.
 pub(crate) fn load_tentative(

@@ -17,6 +17,7 @@ mod conditions;
 mod copies;
 mod edges;
 mod entry;
+mod front_steps;
 mod home;
 mod lists;
 mod machine;

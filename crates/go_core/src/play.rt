@@ -5,7 +5,7 @@ ghost use Rattle.go_core.specs.Machine.{Row, IsReady, machine_of};
 use crate::act::{Act, Event, Out};
 use crate::home::Parts;
 use crate::party::Party;
-use crate::{causes, conditions, copies, steps, turns};
+use crate::{causes, conditions, copies, front_steps, steps, turns};
 use std::alloc::{AllocError, Global};
 
 // Does the step of one party, or refuses it.
@@ -32,13 +32,17 @@ pub(crate) fn one(
     match &event.act {
         Act::Claim { edges } => steps::claim(alloc, words, parties, i, edges),
         Act::LoadHead => Ok(steps::load_head(words, parties, i)),
-        Act::LoadArchived => steps::load_archived(alloc, words, parties, i),
-        Act::LoadDurable => copies::load_durable(alloc, words, parties, i),
+        Act::LoadArchived => front_steps::load_front(alloc, words, parties, i, true),
+        Act::LoadDurable => front_steps::load_front(alloc, words, parties, i, false),
         Act::StoreWord { at } => steps::store_word(slots, words, parties, i, *at),
         Act::LoadOrdered { at } => Ok(steps::load_ordered(slots, words, parties, i, *at)),
         Act::LoadTentative { at } => copies::load_tentative(slots, words, parties, i, *at),
-        Act::StoreArchived { front } => Ok(steps::store_archived(words, parties, i, *front)),
-        Act::StoreDurable { front } => Ok(steps::store_durable(words, parties, i, *front)),
+        Act::StoreArchived { front } => Ok(front_steps::store_front(
+            words, parties, i, true, *front,
+        )),
+        Act::StoreDurable { front } => Ok(front_steps::store_front(
+            words, parties, i, false, *front,
+        )),
         Act::TakeTurn { part } => Ok(turns::take_turn(words, parties, parts, i, *part)),
         Act::PartOut { part } => Ok(turns::take_out(parties, parts, i, *part)),
         Act::PartIn { part, state } => turns::put_in(alloc, parties, parts, i, *part, state),

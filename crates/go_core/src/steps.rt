@@ -21,11 +21,8 @@ ghost use Rattle.go_word.specs.Word.{IsStorable};
 ghost use Rattle.go_core.specs.declared.act.Act.TheVariants.{
   Claim,
   LoadHead,
-  LoadArchived,
   StoreWord,
   LoadOrdered,
-  StoreArchived,
-  StoreDurable,
   Split,
   Join,
 };
@@ -37,7 +34,7 @@ use crate::act::Out;
 use crate::edges::EdgeSeq;
 use crate::opening::BASE;
 use crate::party::Party;
-use crate::words::{ARCHIVED, DURABLE, HEAD};
+use crate::words::HEAD;
 use crate::{conditions, lists};
 use go_word::{encode, matched};
 use std::alloc::{AllocError, Global};
@@ -84,25 +81,6 @@ pub(crate) fn load_head(words: &[u64], parties: &mut Vec<Party>, i: usize) -> Ou
     let party = &mut parties[i];
     party.view.know_head(head);
     Out::Number { value: head }
-}
-
-// A load of the archived front.
-pub(crate) fn load_archived(
-    alloc: Global,
-    words: &[u64],
-    parties: &mut Vec<Party>,
-    i: usize,
-) -> Result<Out, AllocError>
-    requires words { 4 ≤ length words.now }
-    requires live { IsLiveAt parties.old.items i }
-    ensures row { IfOk result (λ out. (slots first : ℕ) (parts : Parts) →
-        Row (machine_of slots first words.now parties.old.items parts) i LoadArchived out (machine_of slots first words.now parties.new.items parts)) }
-    ensures err { OnErr result (parties.new.items ≡ parties.old.items) }
-{
-    let front = words[ARCHIVED];
-    let party = &mut parties[i];
-    party.view.know_archived(alloc, front)?;
-    Ok(Out::Number { value: front })
 }
 
 // The place of a position's word.
@@ -174,54 +152,6 @@ pub(crate) fn load_ordered(
         party.view.stay();
     }
     Out::Word { word }
-}
-
-// A store of the archived front.
-pub(crate) fn store_archived(
-    words: &mut Vec<u64>,
-    parties: &mut Vec<Party>,
-    i: usize,
-    front: u64,
-) -> Out
-    requires words { 4 ≤ length words.old.items }
-    requires live { IsLiveAt parties.old.items i }
-    ensures { (slots first : ℕ) (parts : Parts) →
-        Row (machine_of slots first words.old.items parties.old.items parts) i (StoreArchived front) result
-        (machine_of slots first words.new.items parties.new.items parts) }
-{
-    let party = &mut parties[i];
-    if !conditions::can_archive(words, &party.view, front)
-        || !conditions::has_stood(true, &party.stake, front)
-    {
-        return Out::Refused;
-    }
-    party.view.archive(front);
-    words[ARCHIVED] = front;
-    Out::Done
-}
-
-// A store of the durable front.
-pub(crate) fn store_durable(
-    words: &mut Vec<u64>,
-    parties: &mut Vec<Party>,
-    i: usize,
-    front: u64,
-) -> Out
-    requires words { 4 ≤ length words.old.items }
-    requires live { IsLiveAt parties.old.items i }
-    ensures { (slots first : ℕ) (parts : Parts) →
-        Row (machine_of slots first words.old.items parties.old.items parts) i (StoreDurable front) result
-        (machine_of slots first words.new.items parties.new.items parts) }
-{
-    let party = &mut parties[i];
-    if !conditions::can_flush(words, &party.view, front)
-        || !conditions::has_stood(false, &party.stake, front)
-    {
-        return Out::Refused;
-    }
-    party.view.flush(front);
-    words[DURABLE] = front;
-    Out::Done
 }
 
 // A split of a new party.

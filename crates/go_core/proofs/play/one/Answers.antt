@@ -13,20 +13,21 @@ returns-in-LoadHead-clause-row c = λ first. rw (c.in-LoadHead.is, ← c.deref-i
 pub returns-in-LoadArchived-clause-row : goal.returns-in-LoadArchived-clause-row
 returns-in-LoadArchived-clause-row c =
     rw (← c.deref-in-LoadArchived.ensures.value)
-    (one_row c.load_archived.result c.args.slots c.deref-in-LoadArchived.result.now c.deref-in-LoadArchived.result.now c.args.parties.now.items
-    c.load_archived.new.parties.items c.args.parts.now c.args.event.now.party c.args.event.now.act _ c.in-LoadArchived.is c.load_archived.ensures.row)
+    (one_row c.load_front.result c.args.slots c.deref-in-LoadArchived.result.now c.deref-in-LoadArchived.result.now c.args.parties.now.items
+    c.load_front.new.parties.items c.args.parts.now c.args.event.now.party c.args.event.now.act _ c.in-LoadArchived.is c.load_front.ensures.row)
 
 pub returns-in-LoadOrdered-clause-row : goal.returns-in-LoadOrdered-clause-row
 returns-in-LoadOrdered-clause-row c = λ first. rw (c.in-LoadOrdered.is, ← c.deref-in-LoadOrdered.ensures.value) (c.load_ordered.ensures first c.args.parts.now)
 
 pub returns-in-StoreArchived-clause-row : goal.returns-in-StoreArchived-clause-row
-returns-in-StoreArchived-clause-row c = λ first. rw c.in-StoreArchived.is (c.store_archived.ensures c.args.slots first c.args.parts.now)
+returns-in-StoreArchived-clause-row c = λ first. rw c.in-StoreArchived.is (c.store_front.ensures c.args.slots first c.args.parts.now)
 
 pub returns-in-LoadDurable-clause-row : goal.returns-in-LoadDurable-clause-row
 returns-in-LoadDurable-clause-row c =
     rw (← c.deref-in-LoadDurable.ensures.value)
-    (one_row c.load_durable.result c.args.slots c.deref-in-LoadDurable.result.now c.deref-in-LoadDurable.result.now c.args.parties.now.items
-    c.load_durable.new.parties.items c.args.parts.now c.args.event.now.party c.args.event.now.act _ c.in-LoadDurable.is c.load_durable.ensures.row)
+    (one_row c.load_front-in-LoadDurable.result c.args.slots c.deref-in-LoadDurable.result.now c.deref-in-LoadDurable.result.now c.args.parties.now.items
+    c.load_front-in-LoadDurable.new.parties.items c.args.parts.now c.args.event.now.party c.args.event.now.act _ c.in-LoadDurable.is
+    c.load_front-in-LoadDurable.ensures.row)
 
 pub returns-in-LoadTentative-clause-row : goal.returns-in-LoadTentative-clause-row
 returns-in-LoadTentative-clause-row c =
@@ -56,7 +57,7 @@ returns-in-GiveTurn-clause-row c =
     c.args.parts.now c.args.event.now.party c.args.event.now.act _ c.in-GiveTurn.is c.give_turn.ensures.row
 
 pub returns-in-StoreDurable-clause-row : goal.returns-in-StoreDurable-clause-row
-returns-in-StoreDurable-clause-row c = λ first. rw c.in-StoreDurable.is (c.store_durable.ensures c.args.slots first c.args.parts.now)
+returns-in-StoreDurable-clause-row c = λ first. rw c.in-StoreDurable.is (c.store_front-in-StoreDurable.ensures c.args.slots first c.args.parts.now)
 
 pub returns-in-LoadFlag-clause-row : goal.returns-in-LoadFlag-clause-row
 returns-in-LoadFlag-clause-row c = λ first. rw (c.in-LoadFlag.is, ← c.deref-in-LoadFlag.ensures.value) (c.load_flag.ensures c.args.slots first c.args.parts.now)
