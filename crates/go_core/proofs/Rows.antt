@@ -270,7 +270,7 @@ row_keeps m i (StoreArchived front) out now log row tied =
     let two = tied.parted.two in
     let v = (party_at m i).view in
     front_done m i 1 front (archiving front v) log (archived_stored m.frame log m.words (views_of m.parties) i v front
-    (party_there m i can.0) can.0 can.1.role can.1.onward can.1.taken tied.tied)
+    (party_there m i can.0) can.0 tied.tied can.1.taken can.1.role can.1.onward)
     (archived_parted m i front log can.0 (omega arith) can.1.onward can.2 tied.parted)
     tied) row)
 row_keeps m i (StoreDurable front) out now log row tied =
@@ -281,7 +281,7 @@ row_keeps m i (StoreDurable front) out now log row tied =
     let two = tied.parted.two in
     let v = (party_at m i).view in
     front_done m i 2 front (flushing front v) log (durable_stored m.frame log m.words (views_of m.parties) i v front
-    (party_there m i can.0) can.0 can.1.role can.1.onward can.1.taken tied.tied) (durable_parted m i front log can.0 (omega arith) can.2 tied.parted) tied) row)
+    (party_there m i can.0) can.0 tied.tied can.1.taken can.1.role can.1.onward) (durable_parted m i front log can.0 (omega arith) can.2 tied.parted) tied) row)
 row_keeps m i (TakeTurn part) out now log row tied =
     none_claimed now log
     (done_or_not _ _ _ m out now log tied (λ can. turn_or_not m i (part == 0) log can.0 tied (turn_in (part == 0) m.words == 0) refl) row)

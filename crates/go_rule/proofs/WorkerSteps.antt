@@ -125,7 +125,7 @@ module _ {P : Type 0} (m : Meaning P) (laws : IsLasting m) (key : Key P) where
         renewed_beside m laws key s log parts i d ruled (archiving front d.core) d.told words'
         (record {
           lives = ruled.live;
-          tied = archived_stored (frame_of key) log s.words (cores s.views) i d.core front core ruled.live can.role (omega arith) can.taken ruled.by.tied;
+          tied = archived_stored (frame_of key) log s.words (cores s.views) i d.core front core ruled.live ruled.by.tied can.taken can.role (omega arith);
           less = λ q. omega arith;
           goes_on = λ role. (role, omega arith);
           told = told_on m laws key s log parts i d ruled words' fronts.rises;
@@ -164,7 +164,7 @@ module _ {P : Type 0} (m : Meaning P) (laws : IsLasting m) (key : Key P) where
         renewed_beside m laws key s log parts i d ruled (flushing front d.core) d.told words'
         (record {
           lives = ruled.live;
-          tied = durable_stored (frame_of key) log s.words (cores s.views) i d.core front core ruled.live can.role (omega arith) can.taken ruled.by.tied;
+          tied = durable_stored (frame_of key) log s.words (cores s.views) i d.core front core ruled.live ruled.by.tied can.taken can.role (omega arith);
           less = λ q. omega arith;
           goes_on = λ role. (role, omega arith);
           told = told_on m laws key s log parts i d ruled words' fronts.rises;
