@@ -30,8 +30,10 @@ pub mod Pinned
 pub mod PartLaws
 pub mod Parted
 pub mod TurnSteps
+pub mod PartSteps
 pub mod Sharing
 -- the machine: its rows, its runs and what they tell
+pub mod TurnRows
 pub mod Rows
 pub mod Parties
 pub mod Ready

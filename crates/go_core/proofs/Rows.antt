@@ -11,20 +11,16 @@ use Rattle.go_core.specs.declared.act.Act.TheVariants.{Claim, LoadHead, LoadArch
 use Rattle.go_core.specs.declared.act.Act.TheVariants.{StoreDurable, TakeTurn, PartOut, PartIn, GiveTurn, LoadFlag, StoreFlag, Split, Join}
 use Rattle.go_core.specs.declared.act.Out.{Out}
 use Rattle.go_core.specs.declared.entry.Entry.{Entry}
-use Rattle.go_core.specs.declared.part.PartState.{PartState}
-use Rattle.go_core.specs.Turns.{hold_of, home_of, turn_place, having_turn, putting, giving}
 use Rattle.go_core.specs.Frame.{place, slot, head_in, archived_in, durable_in, released}
 use Rattle.go_core.specs.declared.view.View.{View}
 use Rattle.go_core.specs.View.{stands_at, spent, unmoved, claimed, numbered, stored, took, split_off, joining, archiving, flushing}
 use Rattle.go_core.specs.Rule.{TiedBy}
-use Rattle.go_core.specs.Acts.{CanClaim, CanTake, CanJoin, HasNoTurn, IsLawful}
-use Rattle.go_core.specs.Machine.{Machine, IsTied, views_of, turn_in, absent, stake_off, stakes_joined, party_at, with_view, with_word, with_stake, AreParted}
-use Rattle.go_core.specs.Machine.{with_part, Does, Stores, Row, claims}
+use Rattle.go_core.specs.Acts.{CanClaim, CanTake, CanJoin, HasNoTurn}
+use Rattle.go_core.specs.Machine.{Machine, IsTied, views_of, turn_in, absent, stake_off, stakes_joined, party_at, with_view, with_word, AreParted}
+use Rattle.go_core.specs.Machine.{Does, Stores, Row, claims}
 use Rattle.go_core.proofs.Lookups.{find-Some}
 use Rattle.go_core.proofs.Entries.{count_at-append, count_at-numbered_before, count_at-without_le}
-use Rattle.go_core.proofs.TurnLaws.{turn_stored}
 use Rattle.go_core.proofs.Parted.{party_there, views-set, beside_same, beside_set, kept, archived_parted, durable_parted}
-use Rattle.go_core.proofs.TurnSteps.{turn_parted, out_parted, put_parted, given_parted}
 use Rattle.go_core.proofs.Sharing.{split_parted, join_parted}
 use Rattle.go_core.proofs.Loads.{unmoved_keeps, head_loaded, archived_loaded, matched_is, taken_next}
 use Rattle.go_core.proofs.Claims.{claim_keeps}
@@ -33,6 +29,7 @@ use Rattle.go_core.proofs.Fronts.{archived_stored, durable_stored}
 use Rattle.go_core.proofs.Durable.{durable_loaded, tentative_loaded}
 use Rattle.go_core.proofs.Flags.{flag_stored}
 use Rattle.go_core.proofs.Splits.{split_keeps, join_keeps}
+use Rattle.go_core.proofs.TurnRows.{turn_or_not, out_done, put_done, given_done}
 
 -- a pending entry that was found stands in the list, at its position
 pub found_in : (at : ℕ) (xs : List Entry) (x : Entry) → find (stands_at at) xs ≡ Some x → Contains xs x × (x.at ≡ at)
@@ -42,11 +39,6 @@ found_in at xs x found =
   where
     stood : (y : Entry) → stands_at at y ≡ true → y.at ≡ at
     stood y is = grind (arith, nat_tests)
-
--- a turn word lies after the four shared words and before the slots
-turn_range : (b : Bool) → (4 ≤ turn_place b) × (turn_place b < 6)
-turn_range true = (omega arith, omega arith)
-turn_range false = (omega arith, omega arith)
 
 -- what a claim of nothing leaves
 none_claimed : (m : Machine) (log : List Edge) → IsTied m log → IsTied m (log ++ [])
@@ -115,67 +107,6 @@ claim_done m i edges log live can tied =
     (λ role. (role, omega arith))
     (subst (λ n. TiedBy m.frame (log ++ edges) (set m.words 0 (n + length edges)) (set (views_of m.parties) i (claimed n edges v))) (sym head) claims')
     (omega arith) tied
-
--- a turn that was free is taken, and another stays
-turn_or_not : (m : Machine) (i : ℕ) (b : Bool) (log : List Edge) → (party_at m i).view.live ≡ true → IsTied m log → (free : Bool)
-    → (turn_in b m.words == 0) ≡ free
-    → IsTied (cond free (with_word (turn_place b) 1 (with_stake i (having_turn b (party_at m i).stake) m)) (with_view i (unmoved (party_at m i).view) m)) log
-turn_or_not m i b log live tied true is =
-    let v = (party_at m i).view in
-    let all = tied.tied.ringed.shape.all_words in
-    let two = tied.parted.two in
-    let place' = turn_range b in
-    let free : turn_in b m.words ≡ 0 = grind (arith, nat_tests) in
-    record {
-      tied = subst (TiedBy m.frame log (set m.words (turn_place b) 1)) (sym (views-set m.parties i _))
-          (turn_stored m.frame log m.words (views_of m.parties) i v (turn_place b) 1 (party_there m i live) live (let from = place'.0 in omega arith)
-          (let to = place'.1 in omega arith) tied.tied);
-      parted = turn_parted m i b log live (omega arith) free tied.parted;
-      fits = tied.fits;
-    }
-turn_or_not m i b log live tied false is =
-    kept m i _ m.words log log live (beside_same m.words) (omega arith) (λ p within. omega arith) (λ role. (role, omega arith))
-    (unmoved_keeps m.frame log m.words (views_of m.parties) i (party_at m i).view (party_there m i live) live tied.tied) tied.fits tied
-
--- a part is taken out
-out_done : (m : Machine) (i : ℕ) (b : Bool) (log : List Edge) → (party_at m i).view.live ≡ true → (hold_of b (party_at m i).stake).turn ≡ true → IsTied m log
-    → IsTied (with_part b (record { part = (home_of b m.parts).part; out = true }) (with_view i (unmoved (party_at m i).view) m)) log
-out_done m i b log live turn tied =
-    record {
-      tied = subst (TiedBy m.frame log m.words) (sym (views-set m.parties i _))
-          (unmoved_keeps m.frame log m.words (views_of m.parties) i (party_at m i).view (party_there m i live) live tied.tied);
-      parted = out_parted m i b log live turn tied.parted;
-      fits = tied.fits;
-    }
-
--- a part is put in
-put_done : (m : Machine) (i : ℕ) (b : Bool) (state : PartState) (log : List Edge) → (party_at m i).view.live ≡ true
-    → (hold_of b (party_at m i).stake).turn ≡ true → IsLawful b (party_at m i).view (party_at m i).stake (home_of b m.parts).part state → IsTied m log
-    → IsTied (with_part b (record { part = state; out = false }) (with_stake i (putting b (home_of b m.parts).part.pins state.pins (party_at m i).stake) m)) log
-put_done m i b state log live turn lawful tied =
-    record {
-      tied = subst (TiedBy m.frame log m.words) (sym (views-set m.parties i _))
-          (unmoved_keeps m.frame log m.words (views_of m.parties) i (party_at m i).view (party_there m i live) live tied.tied);
-      parted = put_parted m i b state log live turn lawful tied.tied tied.parted;
-      fits = tied.fits;
-    }
-
--- a turn is given back
-given_done : (m : Machine) (i : ℕ) (b : Bool) (log : List Edge) → (party_at m i).view.live ≡ true → (hold_of b (party_at m i).stake).turn ≡ true
-    → (home_of b m.parts).out ≡ false → IsTied m log
-    → IsTied (with_word (turn_place b) 0 (with_stake i (giving b (home_of b m.parts).part (party_at m i).stake) m)) log
-given_done m i b log live turn home tied =
-    let v = (party_at m i).view in
-    let all = tied.tied.ringed.shape.all_words in
-    let two = tied.parted.two in
-    let place' = turn_range b in
-    record {
-      tied = subst (TiedBy m.frame log (set m.words (turn_place b) 0)) (sym (views-set m.parties i _))
-          (turn_stored m.frame log m.words (views_of m.parties) i v (turn_place b) 0 (party_there m i live) live (let from = place'.0 in omega arith)
-          (let to = place'.1 in omega arith) tied.tied);
-      parted = given_parted m i b log live (omega arith) turn home tied.parted;
-      fits = tied.fits;
-    }
 
 -- a party is split
 split_done : (m : Machine) (i : ℕ) (log : List Edge) → (party_at m i).view.live ≡ true → IsTied m log
