@@ -4,7 +4,6 @@ use Rattle.std.proofs.Common.{arith, subst}
 use Rattle.std.specs.Prelude.{◌==◌}
 use Rattle.std.proofs.lemmas.Bool.Decides.{nat_tests}
 use Rattle.go_word.specs.declared.edge.Edge.{Edge}
-use Rattle.go_word.specs.Word.{word}
 use Rattle.go_core.specs.declared.part.PartState.{PartState}
 use Rattle.go_core.specs.Turns.{hold_of, home_of, turn_place, having_turn, putting, giving}
 use Rattle.go_core.specs.View.{unmoved}
