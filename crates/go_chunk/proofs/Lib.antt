@@ -1,3 +1,4 @@
 -- Lemmas on the pieces of a chain.
 pub mod PlaceLemmas
 pub mod CopyLemmas
+pub mod SliceLemmas

@@ -4,10 +4,10 @@
 //! it takes before it has to ask for memory again; they see a `Chunk` as the list of its words.
 //! A caller may rely on this: after `reserve(k)` the next `k` pushes can't fail, each push adds its word
 //! at the end and lowers `spare` by one (`extend_from_slice` does so for many words), and a refused `reserve` or `copy_front` leaves the list as it was.
-//! `get` and `push` take constant time, and `copy_front` appends whole chunks.
+//! `get`, `slice` and `push` take constant time, and `copy_front` appends whole chunks.
 //! A chain keeps its allocator, and an empty one has asked for no memory: its first chunk lies in it.
 //! No clause says in which chunks a chain is kept; the classes of the chunks stand in `classes.rt` alone.
-//! Left out: a word is never changed, taken out or handed on by reference.
+//! `slice` shows words where they lie, as far as they lie together. Left out: a word is never changed or taken out.
 #![tactic(auto)]
 
 mod chain;
@@ -18,3 +18,6 @@ mod spilled;
 
 pub use chain::Chain;
 pub use chunk::Chunk;
+
+#[cfg(test)]
+mod tests;

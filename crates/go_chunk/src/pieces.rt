@@ -1,6 +1,7 @@
 //! A chain's pieces as one list of words.
 ghost use Rattle.std.specs.Prelude.{◌≡◌, ◌<◌, ◌≤◌, ◌++◌, length, slice_index, slice_set, take, OnOk};
 ghost use Rattle.go_chunk.specs.Pieces.{words_of_all, HaveClasses};
+ghost use Rattle.go_chunk.specs.WordList.{StandFrom};
 
 use crate::classes::{GROWING, Piece, Place};
 use std::alloc::AllocError;
@@ -13,6 +14,16 @@ pub(crate) fn word_at(pieces: &[Piece], i: usize) -> u64
 {
     let place = Place::of(i);
     pieces[place.piece].words()[place.offset]
+}
+
+/// The words of the piece that has the word `i`, from that one on.
+pub(crate) fn words_from(pieces: &[Piece], i: usize) -> &[u64]
+    requires classes { HaveClasses GROWING pieces.now }
+    requires inside { i < length (words_of_all pieces.now) }
+    ensures { StandFrom (words_of_all pieces.now) i result.now }
+{
+    let place = Place::of(i);
+    &pieces[place.piece].words()[place.offset..]
 }
 
 /// Puts a word into the place `i` of the pieces.

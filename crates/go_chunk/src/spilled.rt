@@ -1,8 +1,9 @@
 //! What spills over a chain's first chunk: the others, on the heap.
 ghost use Rattle.std.specs.Prelude.{◌≡◌, ◌<◌, ◌≤◌, ◌+◌, ◌++◌, length, slice_index, slice_set, take, IfOk, OnOk, OnErr};
+ghost use Rattle.go_chunk.specs.WordList.{StandFrom};
 
 use crate::classes::{LAST, Piece, SECOND};
-use crate::pieces::{copy_words, put_word, word_at};
+use crate::pieces::{copy_words, put_word, word_at, words_from};
 use std::alloc::{AllocError, Global};
 use std::marker::Model;
 
@@ -44,6 +45,18 @@ impl Spilled {
             self.second[i]
         } else {
             word_at(&self.later, i - SECOND)
+        }
+    }
+
+    /// The words of the chunk that has the word `i`, from that one on.
+    pub(crate) fn words_from(&self, i: usize) -> &[u64]
+        requires { i < length self.now }
+        ensures { StandFrom self.now i result.now }
+    {
+        if i < SECOND {
+            &self.second[i..]
+        } else {
+            words_from(&self.later, i - SECOND)
         }
     }
 
