@@ -1,7 +1,7 @@
 -- Lemmas on the words of a vertex, taken in one by one.
-use Rattle.std.proofs.Common.{◌≡◌, ℕ, ◌<◌, ◌+◌, true, false, List, [], ◌∷◌, ◌++◌, length, get_or, refl, arith, take, map, fold, ap, sym, ◌∙◌, append_assoc}
+use Rattle.std.proofs.Common.{◌≡◌, ℕ, ◌<◌, ◌+◌, true, false, List, [], ◌∷◌, ◌++◌, length, get_or, refl, arith, take, drop, map, fold, ap, sym, ◌∙◌, append_assoc}
 use Rattle.std.proofs.Common.{append-nil, subst}
-use Rattle.std.proofs.lemmas.List.{take_more}
+use Rattle.std.proofs.lemmas.List.{take_more, take-append-drop}
 use Rattle.std.proofs.lemmas.Bool.Decides.{nat_tests}
 use Rattle.std.proofs.lemmas.Grind.{common_steps, flat_map-append}
 use Rattle.std.proofs.lemmas.List.Sums.{fold-append}
@@ -17,6 +17,13 @@ use Rattle.go_net.specs.Tally.{additions, addition_in, IsTally}
 -- one more word at the end is taken in last
 pub net_of-push : (base words : List ℕ) (word : ℕ) → net_of base (words ++ word ∷ []) ≡ after_word (net_of base words) word
 net_of-push base words word = fold-append after_word base words (word ∷ [])
+
+-- words that are taken in after others are taken in behind them
+pub taken_on : (n : ℕ) (base mid new words part : List ℕ) → mid ≡ net_of base (take n words) → part ≡ drop n words → new ≡ net_of mid part →
+    new ≡ net_of base words
+taken_on n base mid new words part first rest on =
+    on ∙ ap (net_of mid) rest ∙ ap (λ l. net_of l (drop n words)) first ∙ sym (fold-append after_word base (take n words) (drop n words))
+    ∙ ap (net_of base) (take-append-drop n words)
 
 -- and what it adds comes last
 pub additions-push : (words : List ℕ) (word : ℕ) → additions (words ++ word ∷ []) ≡ additions words ++ addition_in word

@@ -9,21 +9,14 @@ use crate::targets::targets_of;
 use go_word::decode;
 use std::alloc::{AllocError, Global};
 
-/// Appends all that is added, and then takes out what the deletions took.
-pub(crate) fn by_counts(
-    alloc: Global,
-    base: &[u32],
-    tail: &[u64],
-    out: &mut Vec<u32>,
-) -> Result<(), AllocError>
-    ensures { OnOk result (out.new.items ≡ net_of base.now tail.now) }
+/// Appends all that is added to the list, and then takes out what the deletions took.
+pub(crate) fn by_counts(alloc: Global, words: &[u64], list: &mut Vec<u32>) -> Result<(), AllocError>
+    ensures { OnOk result (list.new.items ≡ net_of list.old.items words.now) }
 {
-    let targets = targets_of(alloc, tail)?;
-    let mut removed = removals(alloc, &targets, base, tail)?;
-    out.clear();
-    out.extend_from_slice(base)?;
-    append_additions(tail, out)?;
-    remove_counted(&targets, &mut removed, out);
+    let targets = targets_of(alloc, words)?;
+    let mut removed = removals(alloc, &targets, list, words)?;
+    append_additions(words, list)?;
+    remove_counted(&targets, &mut removed, list);
     Ok(())
 }
 
