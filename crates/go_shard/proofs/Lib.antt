@@ -20,3 +20,4 @@ pub mod PartLemmas
 pub mod LongerLemmas
 pub mod MakingLemmas
 pub mod ReadingLemmas
+mod WordsLemmas

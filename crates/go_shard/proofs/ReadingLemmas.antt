@@ -1,8 +1,8 @@
 -- Lemmas on the neighbours of a vertex, as its shard and the words behind it tell them.
-use Rattle.std.proofs.Common.{◌≡◌, ℕ, suc, ◌-◌, ◌≤◌, ◌==◌, Bool, true, false, List, [], ◌∷◌, ◌++◌, length, take, drop, fold, map}
+use Rattle.std.proofs.Common.{◌≡◌, ℕ, suc, ◌-◌, ◌≤◌, Bool, true, false, List, [], ◌∷◌, ◌++◌, length, take, drop, fold, map}
 use Rattle.std.proofs.Common.{refl, ap, arith, sym, subst, ◌∙◌, inl, inr, append-nil, take-add}
 use Rattle.std.specs.Prelude.{All, Contains, min}
-use Rattle.std.proofs.lemmas.Bool.Decides.{nat_tests, leb_tells}
+use Rattle.std.proofs.lemmas.Bool.Decides.{leb_tells}
 use Rattle.std.proofs.lemmas.List.{take-take}
 use Rattle.std.proofs.lemmas.List.Elements.{All-head, All-tail, All-filter, All-cons}
 use Rattle.go_word.specs.declared.edge.Edge.{Edge}
@@ -29,15 +29,6 @@ neighbours_after v log more storable =
     ap (fold (after_entry v) (neighbours log v)) (read_again (entries_from v more) (All-filter (leaves v) IsStorable more storable))
     ∙ after_entry-entries_from v (neighbours log v) more ∙ sym (neighbours-append log more v)
 
--- where no word is there, no entry of the vertex came later
-pub no_words : (v : ℕ) (log more : List Edge) → [] ≡ map plain_word (entries_from v more) → neighbours log v ≡ neighbours (log ++ more) v
-no_words v log more none =
-    let empty : entries_from v more ≡ [] = nothing (entries_from v more) none in
-    sym (neighbours-append log more v ∙ sym (after_entry-entries_from v (neighbours log v) more) ∙ ap (fold (after_entry v) (neighbours log v)) empty) where
-      nothing : (edges : List Edge) → [] ≡ map plain_word edges → edges ≡ []
-      nothing [] none = refl
-      nothing (e ∷ edges) none = absurd (omega (arith, ap length none))
-
 -- the words of a vertex's entries are read as entries that leave it
 pub words_leave : (v : ℕ) (more : List Edge) (words : List ℕ) → All IsStorable more → words ≡ map plain_word (entries_from v more) →
     All (λ w. leaves v (decode w) ≡ true) words
@@ -53,11 +44,6 @@ words_leave v more words storable is = subst (All (λ w. leaves v (decode w) ≡
   each : (log : List Edge) → All IsStorable log → All (λ w. leaves v (decode w) ≡ true) (map plain_word (entries_from v log))
   each [] fits = λ k d below. absurd (omega arith)
   each (e ∷ log) fits = one e log (leaves v e) refl (All-head IsStorable e log fits) (each log (All-tail IsStorable e log fits))
-
--- a list of length 0
-pub empty : (words : List ℕ) → (length words == 0) ≡ true → words ≡ []
-empty [] none = refl
-empty (w ∷ words) none = absurd (grind (arith, nat_tests, none))
 
 -- what a shard and the words behind it tell of the log's first entries
 pub front_parts : (moved front settled F : ℕ) (log : List Edge) → settled ≡ min front moved → moved ≤ F → front ≤ length log →

@@ -1,5 +1,5 @@
 // What is held of a vertex that has entries.
-ghost use Rattle.std.specs.Prelude.{◌≡◌, ◌↔◌, ◌+◌, ◌-◌, ◌*◌, ◌<◌, ◌≤◌, ◌^◌, [], ◌++◌, length, take, drop, fold, nat_lt};
+ghost use Rattle.std.specs.Prelude.{◌≡◌, ◌↔◌, ◌+◌, ◌-◌, ◌*◌, ◌<◌, ◌≤◌, ◌^◌, [], ◌++◌, length, fold, nat_lt};
 ghost use Rattle.std.specs.Prelude.{All, IfOk, OnOk, OnErr, IsTrue, true, if◌then◌else◌, vec_capacity};
 ghost use Rattle.go_net.specs.Net.{net_of};
 ghost use Rattle.go_versions.specs.History.{count_at};
@@ -8,6 +8,7 @@ ghost use Rattle.go_shard.specs.Lane.{empty_lane, promising, accepting, known, l
 ghost use Rattle.go_shard.specs.Listing.{is_bare};
 
 use crate::renewal::{Base, Renewal};
+use crate::words::{tail_behind, take_first};
 use go_chunk::Chain;
 use go_net::net;
 use go_versions::Versions;
@@ -137,10 +138,9 @@ impl Held {
         requires there { raw ≤ known self.now }
         ensures { OnOk result (out.new.items ≡ list_at self.now raw) }
     {
-        let later = (raw - self.floor()) as usize;
-        let mut words = Vec::with_capacity(alloc, later)?;
-        self.tail.copy_front(later, &mut words)?;
-        net(alloc, self.base(), &words, out)
+        out.clear();
+        out.extend_from_slice(self.base())?;
+        take_first(alloc, &self.tail, (raw - self.floor()) as usize, out)
     }
 
     /// What the vertex becomes when it is compacted at a front, in memory of its own; none where it stays what it is.
@@ -245,19 +245,6 @@ impl Held {
             None => 0,
         }
     }
-}
-
-// The words of a chain behind its first ones, in a chain of their own.
-fn tail_behind(alloc: Global, chain: &Chain, count: usize) -> Result<Chain, AllocError>
-    requires { count ≤ length chain.now.words }
-    ensures { IfOk result (λ tail. tail.words ≡ drop count chain.now.words) }
-{
-    let mut tail = Chain::new(alloc);
-    tail.reserve(chain.len() - count)?;
-    for place in count..chain.len() {
-        tail.push(chain.get(place));
-    }
-    Ok(tail)
 }
 
 // Whether all of these words are additions.

@@ -30,6 +30,7 @@ mod slot;
 mod splitting;
 mod store;
 mod striping;
+mod words;
 
 pub use catching_up::catch_up;
 pub use compacting_all::compact_all;

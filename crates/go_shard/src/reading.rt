@@ -8,7 +8,7 @@ ghost use Rattle.go_shard.specs.ShardState.{IsOf, Keeps};
 ghost use Rattle.go_shard.specs.Stands.{Stands};
 
 use crate::store::Shard;
-use go_net::net;
+use go_net::take_in;
 use std::alloc::{AllocError, Global};
 
 /// Gives the neighbours of a vertex after the log's entries up to a front that its shard keeps, and those in the words behind
@@ -30,10 +30,6 @@ pub fn list_neighbours(
         OnOk result (out.new.items ≡ neighbours (take front log ++ more) v) }
 {
     let raw = shard.degree_at(v, front);
-    if later.is_empty() {
-        return shard.neighbours(v, raw, out);
-    }
-    let mut before = Vec::new(alloc);
-    shard.neighbours(v, raw, &mut before)?;
-    net(alloc, &before, later, out)
+    shard.neighbours(v, raw, out)?;
+    take_in(alloc, later, out)
 }
