@@ -103,16 +103,20 @@ part_compacted v so_many i from front views log old new uncut done part =
     let reach : new.front ≡ old.front = ap (λ (s : ShardState). s.front) same in
     let cut : new.cut ≡ front = ap (λ (s : ShardState). s.cut) same in
     record {
-      index_is = ap (λ (s : ShardState). s.index) same ∙ part.index_is;
-      shards_are = ap (λ (s : ShardState). s.shards) same ∙ part.shards_are;
-      vertices_are = ap (λ (s : ShardState). s.vertices) same ∙ part.vertices_are;
+      whose = record {
+        index_is = ap (λ (s : ShardState). s.index) same ∙ part.whose.index_is;
+        shards_are = ap (λ (s : ShardState). s.shards) same ∙ part.whose.shards_are;
+        vertices_are = ap (λ (s : ShardState). s.vertices) same ∙ part.whose.vertices_are;
+      };
       stands = subst (λ (n : ℕ). Stands new (take n log)) (sym reach) (done.stands (take old.front log) part.stands);
       begun = omega (arith, reach, part.begun);
       within = omega (arith, reach, part.within);
       keeps = done.forgotten.keeps from uncut.behind part.keeps;
-      keeps_views = λ n view below. done.forgotten.keeps n (uncut.uncut n view) (part.keeps_views n view (omega (arith, below, reach)));
       cut = omega (arith, cut, uncut.behind);
-      cut_views = λ n view. omega (arith, cut, uncut.uncut n view);
+      answers = record {
+        keeps = λ n view below. done.forgotten.keeps n (uncut.uncut n view) (part.answers.keeps n view (omega (arith, below, reach)));
+        uncut = λ n view. omega (arith, cut, uncut.uncut n view);
+      };
       pins = ap (λ (s : ShardState). s.pins) same ∙ part.pins;
     }
 

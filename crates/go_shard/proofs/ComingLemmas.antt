@@ -21,13 +21,13 @@ use Rattle.go_shard.proofs.GrowthLemmas.{IsLonger, is_longer, among_own, known_i
 -- a shard that came to a front without an entry is as sound as before
 pub sound_on : (shard : ShardState) (front : ℕ) → IsSound shard → shard.front ≤ front → front < 2 ^ 32 → IsSound (record shard { front = front })
 sound_on shard front sound later small = record {
-  shared = sound.shared;
-  small = sound.small;
-  lanes = sound.lanes;
-  front = small;
-  cut = omega (arith, sound.cut, later);
-  since = omega (arith, sound.since, later);
-  earlier = All-weaker (λ range. range.last ≤ shard.front) (λ range. range.last ≤ front) (λ range h. omega arith) shard.fronts.earlier sound.earlier;
+  shape = sound.shape;
+  bounds = record {
+    small = small;
+    cut_within = omega (arith, sound.bounds.cut_within, later);
+    since = omega (arith, sound.bounds.since, later);
+    earlier = All-weaker (λ range. range.last ≤ shard.front) (λ range. range.last ≤ front) (λ range h. omega arith) shard.fronts.earlier sound.bounds.earlier;
+  };
   keeps_cut = keeps_on shard front shard.cut later sound.keeps_cut;
   pins = All-weaker (IsPinned shard) (IsPinned (record shard { front = front }))
       (λ pin held. record { kept = keeps_on shard front pin.front later held.kept; uncut = held.uncut }) shard.pins sound.pins;
@@ -40,7 +40,7 @@ pub has_come : (shard : ShardState) (front : ℕ) (batch : List Edge) → IsSoun
     HasGrown front batch shard (record shard { front = front })
 has_come shard front batch sound later = record {
   same = refl;
-  keeps_front = inr (omega (arith, sound.since, later), omega arith);
+  keeps_front = inr (omega (arith, sound.bounds.since, later), omega arith);
   keeps = λ f kept. keeps_on shard front f later kept;
   told_before = λ s f of early. refl;
   none = λ empty. refl;
@@ -55,16 +55,19 @@ stands_come shard log more batch front sound later stands goes empty =
       whole = longer.long;
       ids = All-append (IsWithin shard.vertices) log more stands.ids goes.ids;
       cut = omega (arith, stands.cut, later);
-      keeps_front = inr (omega (arith, sound.since, later), omega arith);
+      keeps_front = inr (omega (arith, sound.bounds.since, later), omega arith);
       keeps_cut = keeps_on shard front shard.cut later stands.keeps_cut;
-      bases = λ s of. stands.bases s (of_old s of) ∙ ap (λ l. neighbours l s) (sym longer.cut);
-      floors = λ s of. stands.floors s (of_old s of) ∙ ap (λ l. raw l s) (sym longer.cut);
-      words = λ s of.
+      lanes = λ s of.
+          let was = stands.lanes s (of_old s of) in
           let same : entries_from s (drop shard.cut (log ++ more)) ≡ entries_from s (drop shard.cut log) =
           ap (entries_from s) longer.behind ∙ filter-append (leaves s) (drop shard.cut log) more
           ∙ ap (λ l. entries_from s (drop shard.cut log) ++ l) (nothing s (of_old s of))
           ∙ append-nil (entries_from s (drop shard.cut log)) in
-          stands.words s (of_old s of) ∙ ap (map plain_word) (sym same);
+          record {
+            base_is = was.base_is ∙ ap (λ l. neighbours l s) (sym longer.cut);
+            floor_is = was.floor_is ∙ ap (λ l. raw l s) (sym longer.cut);
+            words_are = was.words_are ∙ ap (map plain_word) (sym same);
+          };
       counts = λ s f of kept from. tells s f (of_old s of) longer kept from (cases_lt shard.front f);
     } where
       of_old : (s : ℕ) → IsOf (record shard { front = front }) s → IsOf shard s

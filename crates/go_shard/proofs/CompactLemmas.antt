@@ -92,13 +92,13 @@ pub sound_cut : (shard : ShardState) (at : ℕ) (lanes : List Lane) → IsSound 
 sound_cut shard at lanes sound kept from pinned equal compacted =
     let to = keeps_within shard at sound kept in
     record {
-      shared = sound.shared;
-      small = sound.small;
-      lanes = equal ∙ sound.lanes;
-      front = sound.front;
-      cut = to;
-      since = sound.since;
-      earlier = All-filter (λ range. nat_le at range.last) (λ range. range.last ≤ shard.front) shard.fronts.earlier sound.earlier;
+      shape = record { shared = sound.shape.shared; few = sound.shape.few; whole = equal ∙ sound.shape.whole };
+      bounds = record {
+        small = sound.bounds.small;
+        cut_within = to;
+        since = sound.bounds.since;
+        earlier = All-filter (λ range. nat_le at range.last) (λ range. range.last ≤ shard.front) shard.fronts.earlier sound.bounds.earlier;
+      };
       keeps_cut = keeps_cut_on shard at lanes at (omega arith) kept;
       pins = λ k d within.
           let held = sound.pins k d within in
@@ -134,25 +134,26 @@ stands_cut shard log at lanes sound stands kept from compacted = record {
   whole = stands.whole;
   ids = stands.ids;
   cut = keeps_within shard at sound kept;
-  keeps_front = inr (sound.since, omega arith);
+  keeps_front = inr (sound.bounds.since, omega arith);
   keeps_cut = keeps_cut_on shard at lanes at (omega arith) kept;
-  bases = λ s of.
+  lanes = λ s of.
+      let was = stands.lanes s (of_old s of) in
       let is = compacted (s / shard.shards) in
       let rest = rest_at shard.cut shard.front shard.lanes (s / shard.shards) sound.rest in
       let floor = floors s (of_old s of) in
       let enough : (lane_of shard s).floor ≤ (lane_at lanes (s / shard.shards)).floor =
       omega (arith, is.floor, told_from shard.cut shard.front at (lane_of shard s) rest from) in
-      is.base ∙ list_at-log shard log s (lane_at lanes (s / shard.shards)).floor sound stands (of_old s of) enough
-      ∙ ap (λ (n : ℕ). neighbours (take n (entries_from s log)) s) floor ∙ neighbours_of_first s at log;
-  floors = λ s of. floors s (of_old s of);
-  words = λ s of.
-      let is = compacted (s / shard.shards) in
       let count : (lane_at lanes (s / shard.shards)).floor - (lane_of shard s).floor ≡ raw (take at log) s - raw (take shard.cut log) s =
-      omega (arith, floors s (of_old s of), stands.floors s (of_old s of)) in
-      is.words ∙ ap (λ (n : ℕ). drop n (lane_of shard s).words) count
-      ∙ ap (drop (raw (take at log) s - raw (take shard.cut log) s)) (stands.words s (of_old s of))
-      ∙ drop-map plain_word (raw (take at log) s - raw (take shard.cut log) s) (entries_from s (drop shard.cut log))
-      ∙ ap (map plain_word) (later_between s shard.cut at log from);
+      omega (arith, floor, was.floor_is) in
+      record {
+        base_is = is.base ∙ list_at-log shard log s (lane_at lanes (s / shard.shards)).floor sound stands (of_old s of) enough
+            ∙ ap (λ (n : ℕ). neighbours (take n (entries_from s log)) s) floor ∙ neighbours_of_first s at log;
+        floor_is = floor;
+        words_are = is.words ∙ ap (λ (n : ℕ). drop n (lane_of shard s).words) count
+            ∙ ap (drop (raw (take at log) s - raw (take shard.cut log) s)) was.words_are
+            ∙ drop-map plain_word (raw (take at log) s - raw (take shard.cut log) s) (entries_from s (drop shard.cut log))
+            ∙ ap (map plain_word) (later_between s shard.cut at log from);
+      };
   counts = λ s f of still cut.
       (compacted (s / shard.shards)).told f cut ∙ stands.counts s f (of_old s of) (kept_before_cut shard at lanes f still) (omega (arith, from, cut));
 } where

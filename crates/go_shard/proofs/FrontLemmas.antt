@@ -184,7 +184,7 @@ pub settled_late : (shard : ShardState) (limit bound greatest : ℕ) → IsSound
     IsGreatest shard.fronts.earlier shard.cut bound greatest → shard.fronts.since ≤ bound → IsSettled shard limit (max greatest (min bound shard.front))
 settled_late shard limit bound greatest sound from least is after = record {
   kept = elim (cases_lt greatest (min bound shard.front)) as (λ _. Keeps shard (max greatest (min bound shard.front))) [
-    | inl more ↦ inr (omega (arith, more, after, sound.since), omega (arith, more))
+    | inl more ↦ inr (omega (arith, more, after, sound.bounds.since), omega (arith, more))
     | inr no_more ↦
         let here : greatest ≡ max greatest (min bound shard.front) = omega (arith, no_more) in
         subst (Keeps shard) here (either is.one)

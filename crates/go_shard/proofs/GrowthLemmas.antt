@@ -31,14 +31,14 @@ pub list_at-log : (shard : ShardState) (log : List Edge) (v n : ℕ) → IsSound
 list_at-log shard log v n sound stands of enough =
     let lane = lane_of shard v in
     let later = entries_from v (drop shard.cut log) in
-    let floor = stands.floors v of in
+    let floor = (stands.lanes v of).floor_is in
     let k = n - lane.floor in
-    let words : take k lane.words ≡ map plain_word (take k later) = ap (take k) (stands.words v of) ∙ take-map plain_word k later in
+    let words : take k lane.words ≡ map plain_word (take k later) = ap (take k) ((stands.lanes v of).words_are) ∙ take-map plain_word k later in
     let own : All (λ e. leaves v e ≡ true) (take k later) = All-take (λ e. leaves v e ≡ true) k later (filter_passes (leaves v) (drop shard.cut log)) in
-    let stored : All IsStorable (drop shard.cut log) = All-drop IsStorable shard.cut log (storable_log shard.vertices log sound.small stands.ids) in
+    let stored : All IsStorable (drop shard.cut log) = All-drop IsStorable shard.cut log (storable_log shard.vertices log sound.shape.few stands.ids) in
     let storable : All IsStorable (take k later) = All-take IsStorable k later (All-filter (leaves v) IsStorable (drop shard.cut log) stored) in
     ap (net_of lane.base) words ∙ net_of-entries v lane.base (take k later) own storable
-    ∙ ap (λ b. fold (after_entry v) b (take k later)) (stands.bases v of)
+    ∙ ap (λ b. fold (after_entry v) b (take k later)) ((stands.lanes v of).base_is)
     ∙ ap (λ m. fold (after_entry v) (neighbours (take shard.cut log) v) (take (n - m) later)) floor
     ∙ neighbours_from_cut v shard.cut n log (omega (arith, floor, enough))
 
@@ -76,14 +76,15 @@ pub sound_after : (shard : ShardState) (front : ℕ) (lanes : List Lane) (batch 
     length batch ≤ front - shard.front → length lanes ≡ length shard.lanes → TookParts shard.shards front shard.lanes lanes batch →
     IsSound (after_batch shard front lanes)
 sound_after shard front lanes batch sound later small short equal took = record {
-  shared = sound.shared;
-  small = sound.small;
-  lanes = equal ∙ sound.lanes;
-  front = small;
-  cut = omega (arith, sound.cut, later);
-  since = omega arith;
-  earlier = All-push (λ range. range.last ≤ front) shard.fronts.earlier (record { first = shard.fronts.since; last = shard.front })
-      (All-weaker (λ range. range.last ≤ shard.front) (λ range. range.last ≤ front) (λ range h. omega arith) shard.fronts.earlier sound.earlier) (omega arith);
+  shape = record { shared = sound.shape.shared; few = sound.shape.few; whole = equal ∙ sound.shape.whole };
+  bounds = record {
+    small = small;
+    cut_within = omega (arith, sound.bounds.cut_within, later);
+    since = omega arith;
+    earlier = All-push (λ range. range.last ≤ front) shard.fronts.earlier (record { first = shard.fronts.since; last = shard.front })
+        (All-weaker (λ range. range.last ≤ shard.front) (λ range. range.last ≤ front) (λ range h. omega arith) shard.fronts.earlier sound.bounds.earlier)
+        (omega arith);
+  };
   keeps_cut = keeps_after shard front lanes shard.cut sound.keeps_cut;
   pins = All-weaker (IsPinned shard) (IsPinned (after_batch shard front lanes))
       (λ pin held. record { kept = keeps_after shard front lanes pin.front held.kept; uncut = held.uncut }) shard.pins sound.pins;
@@ -92,7 +93,7 @@ sound_after shard front lanes batch sound later small short equal took = record 
       let few : count_by (is_at shard.shards k) batch ≤ length batch = count_by-le-length (is_at shard.shards k) batch in
       let old = rest_at shard.cut shard.front shard.lanes k sound.rest in
       subst (IsAtRest shard.cut front) (get_or_default lanes k empty_lane d within)
-      (grown_rest shard.cut shard.front front (lane_at shard.lanes k) (lane_at lanes k) part sound.cut later (omega (
+      (grown_rest shard.cut shard.front front (lane_at shard.lanes k) (lane_at lanes k) part sound.bounds.cut_within later (omega (
         arith,
         part_length shard.shards batch k,
         few,
@@ -108,7 +109,7 @@ has_grown shard front lanes batch sound later took some = record {
   same = refl;
   keeps_front = inr (omega arith, omega arith);
   keeps = keeps_after shard front lanes;
-  told_before = λ s f of early. (grown_at shard front lanes batch sound later took (s / shard.shards)).before f (omega (arith, early, later));
+  told_before = λ s f of early. (grown_at shard front lanes batch sound later took (s / shard.shards)).versions.before f (omega (arith, early, later));
   none = λ empty. absurd (omega (arith, ap length empty, some));
 }
 
@@ -161,7 +162,7 @@ stands_after shard log more batch front lanes sound later stands goes took =
     let own : All (λ e. is_own shard e ≡ true) batch = subst (λ (l : List Edge). All (λ e. is_own shard e
     ≡ true) l) goes.own (filter_passes (is_own shard) more) in
     let part : (s : ℕ) → IsOf shard s → part_of shard.shards batch (s / shard.shards) ≡ map plain_word (entries_from s more) = λ s of.
-    ap (map plain_word) (own_part shard s batch sound.shared of.turn own ∙ ap (filter (leaves s)) (sym goes.own) ∙ among_own shard s more of.turn) in
+    ap (map plain_word) (own_part shard s batch sound.shape.shared of.turn own ∙ ap (filter (leaves s)) (sym goes.own) ∙ among_own shard s more of.turn) in
     let lane : (s : ℕ) → IsOf shard s → IsGrown front (lane_of shard s) (lane_at lanes (s / shard.shards)) (map plain_word (entries_from s more)) = λ s of.
     subst (IsGrown front (lane_of shard s) (lane_at lanes (s / shard.shards))) (part s of)
     (grown_at shard front lanes batch sound later took (s / shard.shards)) in
@@ -172,12 +173,16 @@ stands_after shard log more batch front lanes sound later stands goes took =
       cut = omega (arith, stands.cut, later);
       keeps_front = inr (omega arith, omega arith);
       keeps_cut = keeps_after shard front lanes shard.cut stands.keeps_cut;
-      bases = λ s of. (lane s (of_old s of)).base ∙ stands.bases s (of_old s of) ∙ ap (λ l. neighbours l s) (sym longer.cut);
-      floors = λ s of. (lane s (of_old s of)).floor ∙ stands.floors s (of_old s of) ∙ ap (λ l. raw l s) (sym longer.cut);
-      words = λ s of.
+      lanes = λ s of.
+          let was = stands.lanes s (of_old s of) in
+          let is = lane s (of_old s of) in
           let split = sym (map-append plain_word (entries_from s (drop shard.cut log)) (entries_from s more)) in
-          (lane s (of_old s of)).words ∙ ap (λ l. l ++ map plain_word (entries_from s more)) (stands.words s (of_old s of)) ∙ split
-          ∙ ap (map plain_word) (sym (filter-append (leaves s) (drop shard.cut log) more) ∙ ap (entries_from s) (sym longer.behind));
+          record {
+            base_is = is.base ∙ was.base_is ∙ ap (λ l. neighbours l s) (sym longer.cut);
+            floor_is = is.floor ∙ was.floor_is ∙ ap (λ l. raw l s) (sym longer.cut);
+            words_are = is.words ∙ ap (λ l. l ++ map plain_word (entries_from s more)) was.words_are ∙ split
+                ∙ ap (map plain_word) (sym (filter-append (leaves s) (drop shard.cut log) more) ∙ ap (entries_from s) (sym longer.behind));
+          };
       counts = λ s f of kept from. tells s f (of_old s of) (lane s (of_old s of)) longer (kept_before shard front lanes f kept) from;
     } where
       of_old : (s : ℕ) → IsOf (after_batch shard front lanes) s → IsOf shard s
@@ -188,13 +193,13 @@ stands_after shard log more batch front lanes sound later stands goes took =
           Keeps shard f ⊎ (f ≡ front) → shard.cut ≤ f → count_at (lane_at lanes (s / shard.shards)).versions f ≡ raw (take f (log ++ more)) s
       tells s f of lane longer (inl old) from =
           let early = keeps_within shard f sound old in
-          lane.before f (omega (arith, early, later)) ∙ stands.counts s f of old from ∙ ap (λ l. raw l s) (sym (longer.early f early))
+          lane.versions.before f (omega (arith, early, later)) ∙ stands.counts s f of old from ∙ ap (λ l. raw l s) (sym (longer.early f early))
       tells s f of lane longer (inr now) from =
           let all : take front (log ++ more) ≡ log ++ more = ap (λ n. take n (log ++ more)) (sym longer.long) ∙ take-length (log ++ more) in
           let count : length (map plain_word (entries_from s more)) ≡ raw more s = length-map (entries_from s more) plain_word ∙ sym (raw-length s more) in
           let sum : known (lane_of shard s) + length (map plain_word (entries_from s more)) ≡ raw (log ++ more) s =
           omega (arith, known_is shard log s sound stands of, count, raw-append s log more) in
-          subst (λ (g : ℕ). count_at (lane_at lanes (s / shard.shards)).versions g ≡ raw (take g (log ++ more)) s) (sym now) (lane.at ∙ sum
+          subst (λ (g : ℕ). count_at (lane_at lanes (s / shard.shards)).versions g ≡ raw (take g (log ++ more)) s) (sym now) (lane.versions.at ∙ sum
           ∙ ap (λ l. raw l s) (sym all))
 
 -- a batch has entries, by its length

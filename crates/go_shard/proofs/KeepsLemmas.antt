@@ -26,12 +26,12 @@ contains_before p xs x there = All-contains (Contains xs) (filter p xs) x (All-f
 -- a shard keeps no front past its own
 pub keeps_within : (shard : ShardState) (f : ℕ) → IsSound shard → Keeps shard f → f ≤ shard.front
 keeps_within shard f sound (inl one) =
-    omega (arith, one.within.to, All-contains (λ range. range.last ≤ shard.front) shard.fronts.earlier one.range sound.earlier one.there)
+    omega (arith, one.within.to, All-contains (λ range. range.last ≤ shard.front) shard.fronts.earlier one.range sound.bounds.earlier one.there)
 keeps_within shard f sound (inr late) = late.1
 
 -- a shard keeps its own front
 pub keeps_front : (shard : ShardState) → IsSound shard → Keeps shard shard.front
-keeps_front shard sound = inr (sound.since, omega arith)
+keeps_front shard sound = inr (sound.bounds.since, omega arith)
 
 -- a front in some ranges is in more
 in_more : (f : ℕ) (ranges : List FrontRange) (range : FrontRange) → IsInOne f ranges → IsInOne f (ranges ++ range ∷ [])

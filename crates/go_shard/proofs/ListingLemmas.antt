@@ -1,5 +1,5 @@
 -- Lemmas on the places that are listed: through a batch, and through a compaction.
-use Rattle.std.proofs.Common.{◌≡◌, ◌≢◌, ◌⊎◌, ℕ, ◌+◌, ◌-◌, ◌<◌, ◌≤◌, Bool, true, false, List, [], ◌∷◌, ◌++◌, length, take, drop, set}
+use Rattle.std.proofs.Common.{◌≡◌, ◌≢◌, ◌⊎◌, ℕ, ◌+◌, ◌<◌, ◌≤◌, Bool, true, false, List, [], ◌∷◌, ◌++◌, length, take, drop, set}
 use Rattle.std.proofs.Common.{get_or, count_by, refl, sym, ap, subst, ◌∙◌, arith, inl, inr, take_all, ◌/◌, if◌then◌else◌, length-append}
 use Rattle.std.specs.Prelude.{All, Contains, nat_lt}
 use Rattle.std.proofs.lemmas.Bool.{cases_lt, cases_eq, true≢false, lt-ltb}
@@ -10,7 +10,7 @@ use Rattle.std.proofs.lemmas.List.Elements.{All-push, Contains-push, Contains-ap
 use Rattle.std.proofs.lemmas.List.Sums.{count_by_more_yes, count_by_more_no}
 use Rattle.go_word.specs.declared.edge.Edge.{Edge}
 use Rattle.go_shard.specs.Lane.{Lane, empty_lane, lane_at, is_at, promising}
-use Rattle.go_shard.specs.Groups.{begin_of, size_at}
+use Rattle.go_shard.specs.Groups.{size_at}
 use Rattle.go_shard.specs.Listing.{AreListed, ListsBare, is_bare, HasListed}
 
 -- before the batch nothing is listed
@@ -89,22 +89,32 @@ bare_promised lane count other bare = elim (cases_lt 0 count) [
   is : (n : ℕ) → n ≤ 0 → is_bare (promising lane n) ≡ true
   is n none = (let zero : n ≡ 0 = omega (arith, none) in rw (bare, zero) refl)
 
+-- the next entry of a batch leaves the vertex of a lane
+pub record IsNextAt (shards : ℕ) (batch : List Edge) (i : ℕ) (d : Edge) (now : List Lane) (p : ℕ) (was : Lane) : Type 0 where
+  pub within : i < length batch
+  pub at : p ≡ (get_or batch i d).src / shards
+  pub inside : p < length now
+  pub read : was ≡ get_or now p was
+
+-- a place is promised to each of the first entries of a batch, and to no more
+abbrev pub PromisedFirst : ℕ → List Edge → ℕ → List Lane → List Lane → Type 0
+PromisedFirst shards batch i old now = (q : ℕ) → lane_at now q ≡ promising (lane_at old q) (count_by (is_at shards q) (take i batch))
+
 -- one entry more is promised its place
-pub promised_entry : (shards : ℕ) (old now : List Lane) (batch : List Edge) (i p : ℕ) (d : Edge) (was new : Lane) → i < length batch →
-    p ≡ (get_or batch i d).src / shards →
-    p < length now → was ≡ get_or now p was → new ≡ promising was (was.promised + 1) →
-    ((q : ℕ) → lane_at now q ≡ promising (lane_at old q) (count_by (is_at shards q) (take i batch))) →
-    (q : ℕ) → lane_at (set now p new) q ≡ promising (lane_at old q) (count_by (is_at shards q) (take (i + 1) batch))
-promised_entry shards old now batch i p d was new within at inside read is so_far q = elim (cases_eq q p) [
+pub promised_entry : {shards : ℕ} {batch : List Edge} {i p : ℕ} {d : Edge} {now : List Lane} {was : Lane} (old : List Lane) (new : Lane) →
+    IsNextAt shards batch i d now p was → new ≡ promising was (was.promised + 1) →
+    PromisedFirst shards batch i old now → PromisedFirst shards batch (i + 1) old (set now p new)
+promised_entry {shards} {batch} {i} {p} {d} {now} {was} old new next is so_far q = elim (cases_eq q p) [
   | inl same ↦
-      let here : is_at shards q (get_or batch i d) ≡ true = grind (arith, nat_tests, same, at) in
-      let more = count_by_more_yes (is_at shards q) batch i d within here in
+      let here : is_at shards q (get_or batch i d) ≡ true = grind (arith, nat_tests, same, next.at) in
+      let more = count_by_more_yes (is_at shards q) batch i d next.within here in
       let lane : was ≡ promising (lane_at old q) (count_by (is_at shards q) (take i batch)) =
-      read ∙ get_or_default now p was empty_lane inside ∙ ap (lane_at now) (sym same) ∙ so_far q in
-      get_or-set_at now p q new empty_lane same inside ∙ is ∙ ap (λ (l : Lane). promising l (l.promised + 1)) lane ∙ ap (promising (lane_at old q)) (sym more)
+      next.read ∙ get_or_default now p was empty_lane next.inside ∙ ap (lane_at now) (sym same) ∙ so_far q in
+      get_or-set_at now p q new empty_lane same next.inside ∙ is ∙ ap (λ (l : Lane). promising l (l.promised + 1)) lane
+      ∙ ap (promising (lane_at old q)) (sym more)
   | inr other ↦
-      let there : is_at shards q (get_or batch i d) ≡ false = grind (arith, nat_tests, other, at) in
-      let more = count_by_more_no (is_at shards q) batch i d within there in
+      let there : is_at shards q (get_or batch i d) ≡ false = grind (arith, nat_tests, other, next.at) in
+      let more = count_by_more_no (is_at shards q) batch i d next.within there in
       get_or-set_other now p q new empty_lane other ∙ so_far q ∙ ap (promising (lane_at old q)) (sym more)
 ]
 
@@ -114,35 +124,39 @@ not_none more bare some (inl none) = absurd (omega (arith, some, none))
 not_none more bare some (inr other) = other
 
 -- and listed where its lane is bare
-pub listed_entry : (shards : ℕ) (old now : List Lane) (batch : List Edge) (i p : ℕ) (d : Edge) (was : Lane) (before listed new : List ℕ) → i < length batch →
-    p ≡ (get_or batch i d).src / shards → p < length now → length now ≡ length old → was ≡ get_or now p was → HasListed p 1 was listed new →
-    ((q : ℕ) → lane_at now q ≡ promising (lane_at old q) (count_by (is_at shards q) (take i batch))) →
+pub listed_entry : {shards : ℕ} {batch : List Edge} {i p : ℕ} {d : Edge} {now : List Lane} {was : Lane} (old : List Lane) (before listed new : List ℕ) →
+    IsNextAt shards batch i d now p was → length now ≡ length old → HasListed p 1 was listed new → PromisedFirst shards batch i old now →
     ListsBare old (λ q. count_by (is_at shards q) (take i batch)) before listed → ListsBare old (λ q. count_by (is_at shards q) (take (i + 1) batch)) before new
-listed_entry shards old now batch i p d was before listed new within at inside equal read has so_far lists = by has where
+listed_entry {shards} {batch} {i} {p} {d} {now} {was} old before listed new next equal has so_far lists = by has where
   others : (q : ℕ) → q ≢ p → count_by (is_at shards q) (take (i + 1) batch) ≡ count_by (is_at shards q) (take i batch)
-  others q other = (let there : is_at shards q (get_or batch i d) ≡ false = grind (arith, nat_tests, other, at) in
-      count_by_more_no (is_at shards q) batch i d within there)
+  others q other = (let there : is_at shards q (get_or batch i d) ≡ false = grind (arith, nat_tests, other, next.at) in
+      count_by_more_no (is_at shards q) batch i d next.within there)
 
   lane : was ≡ promising (lane_at old p) (count_by (is_at shards p) (take i batch))
-  lane = read ∙ get_or_default now p was empty_lane inside ∙ so_far p
+  lane = next.read ∙ get_or_default now p was empty_lane next.inside ∙ so_far p
 
   by : HasListed p 1 was listed new → ListsBare old (λ q. count_by (is_at shards q) (take (i + 1) batch)) before new
   by (inl pushed) =
       subst (ListsBare old (λ q. count_by (is_at shards q) (take (i + 1) batch)) before) (sym pushed)
       (lists_place old (λ q. count_by (is_at shards q) (take i batch)) (λ q. count_by (is_at shards q) (take (i + 1) batch)) before listed p lists
-      (omega (arith, inside, equal)) others)
+      (omega (arith, next.inside, equal)) others)
   by (inr same) =
       subst (ListsBare old (λ q. count_by (is_at shards q) (take (i + 1) batch)) before) (sym same.0)
       (lists_known old (λ q. count_by (is_at shards q) (take i batch)) (λ q. count_by (is_at shards q) (take (i + 1) batch)) before listed p lists
       (λ bare. bare_promised (lane_at old p) (count_by (is_at shards p) (take i batch)) (subst (λ (l : Lane). is_bare l
       ≡ false) lane (not_none 1 (is_bare was) (omega arith) same.1)) bare) others)
 
+-- the lane of the next group is what it was, and the group has so many words
+pub record IsNextGroup (old : List Lane) (ends : List ℕ) (i more : ℕ) (was : Lane) : Type 0 where
+  pub inside : i < length old
+  pub lane : was ≡ lane_at old i
+  pub size : more ≡ size_at ends i
+
 -- a group is promised its places, and listed where its lane is bare
-pub listed_group : (old now : List Lane) (ends : List ℕ) (i from more : ℕ) (was : Lane) (before listed new : List ℕ) → i < length now →
-    length now ≡ length old →
-    was ≡ lane_at old i → All (λ lane. lane.promised ≡ 0) old → from ≡ begin_of ends i → more ≡ get_or ends i 0 - from → HasListed i more was listed new →
+pub listed_group : {old : List Lane} {ends : List ℕ} {i more : ℕ} {was : Lane} (before listed new : List ℕ) → IsNextGroup old ends i more was →
+    All (λ lane. lane.promised ≡ 0) old → HasListed i more was listed new →
     ListsBare old (λ q. if nat_lt q i then size_at ends q else 0) before listed → ListsBare old (λ q. if nat_lt q (i + 1) then size_at ends q else 0) before new
-listed_group old now ends i from more was before listed new inside equal lane settled begins size has lists = by has where
+listed_group {old} {ends} {i} {more} {was} before listed new next settled has lists = by has where
   named : ℕ → ℕ → ℕ
   named n q = if nat_lt q n then size_at ends q else 0
 
@@ -153,12 +167,12 @@ listed_group old now ends i from more was before listed new inside equal lane se
   here none =
       let now_too : nat_lt i (i + 1) ≡ true = grind (arith, nat_tests) in
       let not_yet : nat_lt i i ≡ false = grind (arith, nat_tests) in
-      rw (now_too, not_yet) (let z : size_at ends i ≡ 0 = omega (arith, none, size, begins) in z)
+      rw (now_too, not_yet) (sym next.size ∙ none)
 
   bare_now : (lane_at old i).words ≡ [] → is_bare was ≡ true
   bare_now bare =
-      let none : (lane_at old i).promised ≡ 0 = settled i empty_lane (omega (arith, inside, equal)) in
-      rw lane (rw (bare, none) refl)
+      let none : (lane_at old i).promised ≡ 0 = settled i empty_lane next.inside in
+      rw next.lane (rw (bare, none) refl)
 
   still : (more ≡ 0) ⊎ (is_bare was ≡ false) → ListsBare old (λ q. if nat_lt q (i + 1) then size_at ends q else 0) before listed
   still (inl none) =
@@ -175,7 +189,7 @@ listed_group old now ends i from more was before listed new inside equal lane se
   by (inl pushed) =
       subst (ListsBare old (λ q. if nat_lt q (i + 1) then size_at ends q else 0) before) (sym pushed)
       (lists_place old (λ q. if nat_lt q i then size_at ends q else 0) (λ q. if nat_lt q (i + 1) then size_at ends q
-      else 0) before listed i lists (omega (arith, inside, equal)) others)
+      else 0) before listed i lists next.inside others)
   by (inr same) = subst (ListsBare old (λ q. if nat_lt q (i + 1) then size_at ends q else 0) before) (sym same.0) (still same.1)
 
 -- what was listed before a batch still is

@@ -11,16 +11,13 @@ use Rattle.go_shard.specs.Parts.{HasPart, HaveParts}
 pub part_longer : (v so_many i from : ℕ) (views : List ℕ) (log more : List Edge) (shard : ShardState) → HasPart v so_many i from views log shard →
     HasPart v so_many i from views (log ++ more) shard
 part_longer v so_many i from views log more shard part = record {
-  index_is = part.index_is;
-  shards_are = part.shards_are;
-  vertices_are = part.vertices_are;
+  whose = part.whose;
   stands = subst (Stands shard) (sym (take-append-le shard.front log more part.within)) part.stands;
   begun = part.begun;
   within = omega (arith, part.within, length-append log more);
   keeps = part.keeps;
-  keeps_views = part.keeps_views;
   cut = part.cut;
-  cut_views = part.cut_views;
+  answers = part.answers;
   pins = part.pins;
 }
 
@@ -38,27 +35,27 @@ parts_longer v so_many from views log more shards parts = record {
 pub part_viewed : (v so_many i from front : ℕ) (views later : List ℕ) (log : List Edge) (shard : ShardState) → front ≡ length log →
     ((n : ℕ) → Contains later n → (front ≡ n) ⊎ Contains views n) → HasPart v so_many i from views log shard → HasPart v so_many i from later log shard
 part_viewed v so_many i from front views later log shard whole among part = record {
-  index_is = part.index_is;
-  shards_are = part.shards_are;
-  vertices_are = part.vertices_are;
+  whose = part.whose;
   stands = part.stands;
   begun = part.begun;
   within = part.within;
   keeps = part.keeps;
-  keeps_views = λ n view below. keep n below (among n view);
   cut = part.cut;
-  cut_views = λ n view. uncut n (among n view);
+  answers = record {
+    keeps = λ n view below. keep n below (among n view);
+    uncut = λ n view. uncut n (among n view);
+  };
   pins = part.pins;
 } where
   uncut : (n : ℕ) → (front ≡ n) ⊎ Contains views n → shard.cut ≤ n
   uncut n (inl is) = omega (arith, is, whole, part.within, part.stands.cut)
-  uncut n (inr view) = part.cut_views n view
+  uncut n (inr view) = part.answers.uncut n view
 
   keep : (n : ℕ) → n ≤ shard.front → (front ≡ n) ⊎ Contains views n → Keeps shard n
   keep n below (inl is) =
       let same : shard.front ≡ n = omega (arith, is, whole, below, part.within) in
       subst (Keeps shard) same part.stands.keeps_front
-  keep n below (inr view) = part.keeps_views n view below
+  keep n below (inr view) = part.answers.keeps n view below
 
 -- so do all shards
 pub parts_viewed : (v so_many from front : ℕ) (views later : List ℕ) (log : List Edge) (shards : List ShardState) → front ≡ length log →
@@ -76,15 +73,12 @@ pub part_come : (v so_many i from : ℕ) (views : List ℕ) (log : List Edge) (s
 part_come v so_many i from views log shard part come =
     let end : shard.front ≡ length log = omega (arith, part.within, come) in
     record {
-      index_is = part.index_is;
-      shards_are = part.shards_are;
-      vertices_are = part.vertices_are;
+      whose = part.whose;
       stands = part.stands;
       begun = come;
       within = part.within;
       keeps = subst (Keeps shard) end part.stands.keeps_front;
-      keeps_views = part.keeps_views;
       cut = omega (arith, part.stands.cut, end);
-      cut_views = part.cut_views;
+      answers = part.answers;
       pins = part.pins;
     }

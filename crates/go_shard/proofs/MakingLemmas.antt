@@ -8,15 +8,13 @@ use Rattle.go_word.specs.declared.edge.Edge.{Edge}
 use Rattle.go_word.specs.Log.{IsWithin}
 use Rattle.go_shard.specs.ShardState.{ShardState, Keeps}
 use Rattle.go_shard.specs.Stands.{Stands}
-use Rattle.go_shard.specs.Parts.{HasPart, HaveParts, IsBehind, AllHaveCome}
+use Rattle.go_shard.specs.Parts.{IsShardOf, HasPart, HaveParts, IsBehind, AllHaveCome}
 use Rattle.go_shard.proofs.LongerLemmas.{part_come}
 
 -- the shard i of so many, without entries
 pub record IsEmpty (v so_many i : ℕ) (shard : ShardState) : Type 0 where
   pub stands : Stands shard []
-  pub index_is : shard.index ≡ i
-  pub shards_are : shard.shards ≡ so_many
-  pub vertices_are : shard.vertices ≡ v
+  pub whose : IsShardOf v so_many i shard
   pub pins : shard.pins ≡ []
 
 -- the first shards of so many, without entries
@@ -44,16 +42,16 @@ empty_part : (v so_many i : ℕ) (log : List Edge) (shard : ShardState) → IsEm
 empty_part v so_many i log shard is =
     let front : shard.front ≡ 0 = sym is.stands.whole in
     record {
-      index_is = is.index_is;
-      shards_are = is.shards_are;
-      vertices_are = is.vertices_are;
+      whose = is.whose;
       stands = subst (λ (n : ℕ). Stands shard (take n log)) (sym front) is.stands;
       begun = omega arith;
       within = omega (arith, front);
       keeps = subst (Keeps shard) front is.stands.keeps_front;
-      keeps_views = λ n view below. absurd (omega (arith, view.1));
       cut = omega (arith, front, is.stands.cut);
-      cut_views = λ n view. absurd (omega (arith, view.1));
+      answers = record {
+        keeps = λ n view below. absurd (omega (arith, view.1));
+        uncut = λ n view. absurd (omega (arith, view.1));
+      };
       pins = is.pins;
     }
 

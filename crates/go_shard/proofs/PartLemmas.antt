@@ -26,16 +26,28 @@ all_pass p (e ∷ edges) = passes (p e) refl (all_pass p edges) where
 filter_no_longer : (p : Edge → Bool) (edges : List Edge) → length (filter p edges) ≤ length edges
 filter_no_longer p edges = omega (arith, length-filter p edges, count_by-le-length p edges)
 
+-- the piece of a log between two fronts
+record IsPiece (v start end : ℕ) (log piece : List Edge) : Type 0 where
+  later : start < end
+  within : end ≤ length log
+  piece_is : piece ≡ take (end - start) (drop start log)
+  ids : All (IsWithin v) piece
+
+-- it has as many entries as there are fronts behind the first
+piece_long : {v start end : ℕ} {log piece : List Edge} → IsPiece v start end log piece → length piece ≡ end - start
+piece_long {v} {start} {end} {log} {piece} p =
+    ap length p.piece_is ∙ length-take (end - start) (drop start log) ∙ omega (arith, length-drop start log, p.within, p.later)
+
 -- a shard may take its batch of a piece
-pub can_take : (v so_many i from start end : ℕ) (views : List ℕ) (log piece batch : List Edge) (shard : ShardState) → HasPart v so_many i from views log shard →
-    All (IsWithin v) piece → length piece ≡ end - start → start < end → end < 2 ^ 32 → batch ≡ filter (is_of_shard so_many i) piece →
+can_take : {v so_many i from start end : ℕ} {views : List ℕ} {log piece batch : List Edge} {shard : ShardState} →
+    HasPart v so_many i from views log shard → IsPiece v start end log piece → end < 2 ^ 32 → batch ≡ filter (is_of_shard so_many i) piece →
     CanTake start end shard batch
-can_take v so_many i from start end views log piece batch shard part ids long later small is = record {
-  later = later;
+can_take {v} {so_many} {i} {from} {start} {end} {views} {log} {piece} {batch} {shard} part p small is = record {
+  later = p.later;
   small = small;
-  short = rw is (omega (arith, long, filter_no_longer (is_of_shard so_many i) piece));
-  ids = rw (part.vertices_are, is) (All-filter (is_of_shard so_many i) (IsWithin v) piece ids);
-  own = rw (part.shards_are, part.index_is, is) (all_pass (is_of_shard so_many i) piece);
+  short = rw is (omega (arith, piece_long p, filter_no_longer (is_of_shard so_many i) piece));
+  ids = rw (part.whose.vertices_are, is) (All-filter (is_of_shard so_many i) (IsWithin v) piece p.ids);
+  own = rw (part.whose.shards_are, part.whose.index_is, is) (all_pass (is_of_shard so_many i) piece);
 }
 
 -- a front that was kept, or the new one
@@ -47,35 +59,43 @@ kept_front old new views start end n batch grown keeps (inr behind) view within 
     let same : end ≡ n = omega (arith, behind, within) in
     subst (Keeps new) same grown.keeps_front
 
+-- no view is between two fronts
+abbrev NoViewBetween : List ℕ → ℕ → ℕ → Type 0
+NoViewBetween views start end = (n : ℕ) → Contains views n → IsBeside start end n
+
 -- a shard that took its batch has its part of the log up to the later front
-pub part_taken : (v so_many i from start end : ℕ) (views : List ℕ) (log piece batch : List Edge) (old new : ShardState) →
-    HasPart v so_many i from views log old →
-    HasTaken start end batch old new → All (IsWithin v) piece → start < end → end ≤ length log → piece ≡ take (end - start) (drop start log) →
-    batch ≡ filter (is_of_shard so_many i) piece → ((n : ℕ) → Contains views n → IsBeside start end n) → HasPart v so_many i from views log new
-part_taken v so_many i from start end views log piece batch old new part taken ids later within is batch_is beside =
+part_taken : {v so_many i from start end : ℕ} {views : List ℕ} {log piece batch : List Edge} {old new : ShardState} →
+    HasPart v so_many i from views log old → HasTaken start end batch old new → IsPiece v start end log piece →
+    batch ≡ filter (is_of_shard so_many i) piece → NoViewBetween views start end → HasPart v so_many i from views log new
+part_taken {v} {so_many} {i} {from} {start} {end} {views} {log} {piece} {batch} {old} {new} part taken p batch_is beside =
     let at = taken.was_at in
     let grown = taken.grown in
-    let long : length piece ≡ end - start = ap length is ∙ length-take (end - start) (drop start log) ∙ omega (arith, length-drop start log, within, later) in
     let same = grown.same in
     let front : new.front ≡ end = ap (λ (s : ShardState). s.front) same in
-    let own : filter (is_own old) piece ≡ batch = rw (part.shards_are, part.index_is) (sym batch_is) in
-    let goes : GoesOn old piece batch end = record { reach = rw at (omega (arith, long, later)); ids = rw part.vertices_are ids; own = own } in
+    let own : filter (is_own old) piece ≡ batch = rw (part.whose.shards_are, part.whose.index_is) (sym batch_is) in
+    let goes : GoesOn old piece batch end =
+    record { reach = rw at (omega (arith, piece_long p, p.later)); ids = rw part.whose.vertices_are p.ids; own = own } in
     let longer : take start log ++ piece ≡ take end log =
-    ap (λ (l : List Edge). take start log ++ l) is ∙ sym (take-add start (end - start) log) ∙ ap (λ (n : ℕ). take n log) (omega (arith, later)) in
+    ap (λ (l : List Edge). take start log ++ l) p.piece_is ∙ sym (take-add start (end - start) log)
+    ∙ ap (λ (n : ℕ). take n log) (omega (arith, p.later)) in
     let stands : Stands old (take start log) = subst (λ (n : ℕ). Stands old (take n log)) at part.stands in
     record {
-      index_is = ap (λ (s : ShardState). s.index) same ∙ part.index_is;
-      shards_are = ap (λ (s : ShardState). s.shards) same ∙ part.shards_are;
-      vertices_are = ap (λ (s : ShardState). s.vertices) same ∙ part.vertices_are;
+      whose = record {
+        index_is = ap (λ (s : ShardState). s.index) same ∙ part.whose.index_is;
+        shards_are = ap (λ (s : ShardState). s.shards) same ∙ part.whose.shards_are;
+        vertices_are = ap (λ (s : ShardState). s.vertices) same ∙ part.whose.vertices_are;
+      };
       stands = subst (λ (n : ℕ). Stands new (take n log)) (sym front) (subst (Stands new) longer (taken.stands (take start log) piece stands goes));
-      begun = omega (arith, front, part.begun, at, later);
-      within = omega (arith, front, within);
+      begun = omega (arith, front, part.begun, at, p.later);
+      within = omega (arith, front, p.within);
       keeps = grown.keeps from part.keeps;
-      keeps_views = λ n view below.
-          kept_front old new views start end n batch grown (λ m there before. part.keeps_views m there (omega (arith, before, at))) (beside n view) view
-          (omega (arith, below, front));
       cut = omega (arith, ap (λ (s : ShardState). s.cut) same, part.cut);
-      cut_views = λ n view. omega (arith, ap (λ (s : ShardState). s.cut) same, part.cut_views n view);
+      answers = record {
+        keeps = λ n view below.
+            kept_front old new views start end n batch grown (λ m there before. part.answers.keeps m there (omega (arith, before, at))) (beside n view) view
+            (omega (arith, below, front));
+        uncut = λ n view. omega (arith, ap (λ (s : ShardState). s.cut) same, part.answers.uncut n view);
+      };
       pins = ap (λ (s : ShardState). s.pins) same ∙ part.pins;
     }
 
@@ -125,35 +145,48 @@ pub piece_of_log : (from start end : ℕ) (log newest : List Edge) → newest �
 piece_of_log from start end log newest are begun =
     rw are (ap (take (end - start)) (drop-drop (start - from) from log ∙ ap (λ (n : ℕ). drop n log) (omega (arith, begun))))
 
+-- the next piece of a log, up to a later front, was split among so many shards
+pub record IsDealt (from start end : ℕ) (newest : List Edge) (count : ℕ) (batches : List (List Edge)) : Type 0 where
+  pub piece : List Edge
+  pub later : start < end
+  pub within : end ≤ from + length newest
+  pub piece_is : piece ≡ take (end - start) (drop (start - from) newest)
+  pub split : IsSplit count piece batches
+
+-- it is a piece of that log
+dealt_piece : {v so_many from start end count : ℕ} {views : List ℕ} {log newest : List Edge} {old : List ShardState} {batches : List (List Edge)} →
+    IsBehind v so_many from views log newest old → from ≤ start → (dealt : IsDealt from start end newest count batches) →
+    IsPiece v start end log dealt.piece
+dealt_piece {v} {so_many} {from} {start} {end} {count} {views} {log} {newest} {old} {batches} b begun dealt =
+    let whole : from + length newest ≡ length log = rw b.newest_are (omega (arith, length-drop from log, b.from_within)) in
+    let is : dealt.piece ≡ take (end - start) (drop start log) = dealt.piece_is ∙ piece_of_log from start end log newest b.newest_are begun in
+    record {
+      later = dealt.later;
+      within = omega (arith, dealt.within, whole);
+      piece_is = is;
+      ids = subst (All (IsWithin v)) (sym is) (All-take (IsWithin v) (end - start) (drop start log) (All-drop (IsWithin v) start log b.ids));
+    }
+
 -- each shard may take its batch of the next piece
-pub can_all_take : (from start end : ℕ) (views stops : List ℕ) (newest piece : List Edge) (old now : List ShardState) (batches : List (List Edge)) →
-    AreBehind from views newest old →
-    IsCaughtUpTo from views stops newest old now start → start < end → end ≤ from + length newest → piece ≡ take (end - start) (drop (start - from) newest) →
-    IsSplit (length now) piece batches → CanAllTake start end now batches
-can_all_take from start end views stops newest piece old now batches behind caught later within is split =
+pub can_all_take : {from start end : ℕ} {views stops : List ℕ} {newest : List Edge} {old now : List ShardState} {batches : List (List Edge)} →
+    AreBehind from views newest old → IsCaughtUpTo from views stops newest old now start → IsDealt from start end newest (length now) batches →
+    CanAllTake start end now batches
+can_all_take {from} {start} {end} {views} {stops} {newest} {old} {now} {batches} behind caught dealt =
     let b = behind.behind in
     let parts = caught.parts behind.v behind.so_many behind.log b in
-    let whole : from + length newest ≡ length behind.log = rw b.newest_are (omega (arith, length-drop from behind.log, b.from_within)) in
-    let piece_is : piece ≡ take (end - start) (drop start behind.log) = is ∙ piece_of_log from start end behind.log newest b.newest_are caught.begun in
-    let long : length piece ≡ end - start = ap length piece_is ∙ length-take (end - start) (drop start behind.log)
-    ∙ omega (arith, length-drop start behind.log, within, whole, later) in
-    let ids : All (IsWithin behind.v) piece =
-    subst (All (IsWithin behind.v)) (sym piece_is) (All-take (IsWithin behind.v) (end - start) (drop start behind.log)
-    (All-drop (IsWithin behind.v) start behind.log b.ids)) in
+    let p = dealt_piece b caught.begun dealt in
     record {
       each = λ i d below.
-          let below_all : i < behind.so_many = omega (arith, below, parts.count) in
-          can_take behind.v behind.so_many i from start end views behind.log piece (get_or batches i []) (get_or now i d)
-          (parts.each i d below_all) ids long later (omega (arith, within, whole, b.small))
-          (split.each i below ∙ ap (λ (n : ℕ). filter (is_of_shard n i) piece) parts.count);
+          let batch : get_or batches i [] ≡ filter (is_of_shard behind.so_many i) dealt.piece =
+          dealt.split.each i below ∙ ap (λ (n : ℕ). filter (is_of_shard n i) dealt.piece) parts.count in
+          can_take (parts.each i d (omega (arith, below, parts.count))) p (omega (arith, p.within, b.small)) batch;
     }
 
 -- all parts, after some batches were taken
-parts_taken : (v so_many from start end : ℕ) (views stops : List ℕ) (log newest piece : List Edge) (now new : List ShardState) (batches : List (List Edge)) →
-    HaveParts v so_many from views log now → IsSplit (length now) piece batches → MayAllHaveTaken start end batches now new → All (IsWithin v) piece →
-    start < end → end ≤ length log →
-    piece ≡ take (end - start) (drop start log) → ((n : ℕ) → Contains views n → IsBeside start end n) → HaveParts v so_many from views log new
-parts_taken v so_many from start end views stops log newest piece now new batches parts split may ids later within is beside = record {
+parts_taken : {v so_many from start end : ℕ} {views : List ℕ} {log piece : List Edge} {now new : List ShardState} {batches : List (List Edge)} →
+    HaveParts v so_many from views log now → IsPiece v start end log piece → IsSplit (length now) piece batches → MayAllHaveTaken start end batches now new →
+    NoViewBetween views start end → HaveParts v so_many from views log new
+parts_taken {v} {so_many} {from} {start} {end} {views} {log} {piece} {now} {new} {batches} parts p split may beside = record {
   some = parts.some;
   few = parts.few;
   count = may.count ∙ parts.count;
@@ -165,38 +198,30 @@ parts_taken v so_many from start end views stops log newest piece now new batche
   one : (i : ℕ) (old_one new_one : ShardState) (batch : List Edge) → HasPart v so_many i from views log old_one → batch ≡ filter (is_of_shard so_many i) piece →
       MayHaveTaken start end batch old_one new_one → HasPart v so_many i from views log new_one
   one i old_one new_one batch part batch_is (inl same) = subst (HasPart v so_many i from views log) (sym same) part
-  one i old_one new_one batch part batch_is (inr taken) =
-      part_taken v so_many i from start end views log piece batch old_one new_one part taken ids later within is batch_is beside
+  one i old_one new_one batch part batch_is (inr taken) = part_taken part taken p batch_is beside
 
 -- whatever was taken of the next piece, the shards have their parts
-pub parts_may : (from start end : ℕ) (views : List ℕ) (newest piece : List Edge) (old now new : List ShardState) (batches : List (List Edge)) →
-    IsCaughtUpTo from views (stops_of old views) newest old now start → start < end → end ≤ from + length newest →
-    piece ≡ take (end - start) (drop (start - from) newest) →
-    IsSplit (length now) piece batches → All (IsBeside start end) (stops_of old views) → MayAllHaveTaken start end batches now new →
+pub parts_may : {from start end : ℕ} {views : List ℕ} {newest : List Edge} {old now new : List ShardState} {batches : List (List Edge)} →
+    IsCaughtUpTo from views (stops_of old views) newest old now start → IsDealt from start end newest (length now) batches →
+    All (IsBeside start end) (stops_of old views) → MayAllHaveTaken start end batches now new →
     (v so_many : ℕ) (log : List Edge) → IsBehind v so_many from views log newest old → HaveParts v so_many from views log new
-parts_may from start end views newest piece old now new batches caught later within is split beside may v so_many log b =
-    let whole : from + length newest ≡ length log = rw b.newest_are (omega (arith, length-drop from log, b.from_within)) in
-    let piece_is : piece ≡ take (end - start) (drop start log) = is ∙ piece_of_log from start end log newest b.newest_are caught.begun in
-    let ids : All (IsWithin v) piece = subst (All (IsWithin v)) (sym piece_is)
-    (All-take (IsWithin v) (end - start) (drop start log) (All-drop (IsWithin v) start log b.ids)) in
-    parts_taken v so_many from start end views (stops_of old views) log newest piece now new batches (caught.parts v so_many log b) split may ids later
-    (omega (arith, within, whole)) piece_is
+parts_may {from} {start} {end} {views} {newest} {old} {now} {new} {batches} caught dealt beside may v so_many log b =
+    parts_taken (caught.parts v so_many log b) (dealt_piece b caught.begun dealt) dealt.split may
     (λ n view. beside_all (IsBeside start end) (stops_of old views) n beside (Contains-append_left views (map (λ s. s.front) old) n view))
 
 -- all shards took the next piece
-pub caught_more : (from start end : ℕ) (views : List ℕ) (newest piece : List Edge) (old now new : List ShardState) (batches : List (List Edge)) →
-    IsCaughtUpTo from views (stops_of old views) newest old now start → start < end → end ≤ from + length newest →
-    piece ≡ take (end - start) (drop (start - from) newest) →
-    IsSplit (length now) piece batches → All (IsBeside start end) (stops_of old views) → MayAllHaveTaken start end batches now new → NoneIsAt start new →
+pub caught_more : {from start end : ℕ} {views : List ℕ} {newest : List Edge} {old now new : List ShardState} {batches : List (List Edge)} →
+    IsCaughtUpTo from views (stops_of old views) newest old now start → IsDealt from start end newest (length now) batches →
+    All (IsBeside start end) (stops_of old views) → MayAllHaveTaken start end batches now new → NoneIsAt start new →
     IsCaughtUpTo from views (stops_of old views) newest old new end
-caught_more from start end views newest piece old now new batches caught later within is split beside may none = record {
+caught_more {from} {start} {end} {views} {newest} {old} {now} {new} {batches} caught dealt beside may none = record {
   count = may.count ∙ caught.count;
-  begun = omega (arith, caught.begun, later);
-  within = within;
+  begun = omega (arith, caught.begun, dealt.later);
+  within = dealt.within;
   each = λ k d below.
       let below_now : k < length now = omega (arith, below, may.count) in
       one (get_or now k d) (get_or new k d) (get_or batches k []) (caught.each k d below_now) (may.each k d below_now) (none.each k d below);
-  parts = parts_may from start end views newest piece old now new batches caught later within is split beside may;
+  parts = parts_may caught dealt beside may;
 } where
   stops : List ℕ
   stops = stops_of old views

@@ -29,13 +29,8 @@ moved_all shard id front (p ∷ pins) kept up held =
 -- with other pins, each of which it may have, a shard is as sound as before
 sound_pinned : (shard : ShardState) (pins : List Pin) → IsSound shard → All (IsPinned shard) pins → IsSound (record shard { pins = pins })
 sound_pinned shard pins sound held = record {
-  shared = sound.shared;
-  small = sound.small;
-  lanes = sound.lanes;
-  front = sound.front;
-  cut = sound.cut;
-  since = sound.since;
-  earlier = sound.earlier;
+  shape = sound.shape;
+  bounds = sound.bounds;
   keeps_cut = sound.keeps_cut;
   pins = λ k d within. (let pin = held k d within in record { kept = pin.kept; uncut = pin.uncut });
   rest = sound.rest;

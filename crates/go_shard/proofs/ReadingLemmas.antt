@@ -67,10 +67,10 @@ settled_kept v so_many i moved front settled views log shard part is view = elim
   | inl h ↦ subst (Keeps shard) (let same : moved ≡ settled = omega (arith, is, h.1) in same) part.keeps
   | inr h ↦
       let same : front ≡ settled = omega (arith, is, h.1) in
-      subst (Keeps shard) same (part.keeps_views front view (omega (arith, part.begun, h.1)))
+      subst (Keeps shard) same (part.answers.keeps front view (omega (arith, part.begun, h.1)))
 ]
 
 -- and isn't below its cut
 pub settled_uncut : (v so_many i moved front settled : ℕ) (views : List ℕ) (log : List Edge) (shard : ShardState) → HasPart v so_many i moved views log shard →
     settled ≡ min front moved → Contains views front → shard.cut ≤ settled
-settled_uncut v so_many i moved front settled views log shard part is view = omega (arith, is, part.cut, part.cut_views front view)
+settled_uncut v so_many i moved front settled views log shard part is view = omega (arith, is, part.cut, part.answers.uncut front view)

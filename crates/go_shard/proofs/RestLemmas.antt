@@ -70,6 +70,14 @@ rest_ahead cut front later lane after rest = record {
   no_less = rest.no_less;
 }
 
+-- versions were noted up to a front, where the count is so much: what they told before it they still tell
+pub record AreNoted (front count : ℕ) (old new : List Version) : Type 0 where
+  pub before : (f : ℕ) → f < front → count_at new f ≡ count_at old f
+  pub at : count_at new front ≡ count
+  pub earlier : All (λ v. v.front ≤ front) new
+  pub no_less : All (λ v. v.count ≤ count) new
+  pub rising : IsRising new
+
 -- what a lane is after it took its part of a batch, up to a front
 pub record IsGrown (front : ℕ) (old new : Lane) (ws : List ℕ) : Type 0 where
   pub base : new.base ≡ old.base
@@ -77,11 +85,7 @@ pub record IsGrown (front : ℕ) (old new : Lane) (ws : List ℕ) : Type 0 where
   pub words : new.words ≡ old.words ++ ws
   pub settled : new.promised ≡ 0
   pub retired : new.retired ≡ old.retired
-  pub before : (f : ℕ) → f < front → count_at new.versions f ≡ count_at old.versions f
-  pub at : count_at new.versions front ≡ known old + length ws
-  pub earlier : All (λ v. v.front ≤ front) new.versions
-  pub no_less : All (λ v. v.count ≤ known new) new.versions
-  pub rising : IsRising new.versions
+  pub versions : AreNoted front (known old + length ws) old.versions new.versions
 
 -- a lane that was at rest is so grown
 pub grown : (cut past front : ℕ) (old new : Lane) (ws : List ℕ) → past < front → IsAtRest cut past old →
@@ -90,32 +94,28 @@ pub grown : (cut past front : ℕ) (old new : Lane) (ws : List ℕ) → past < f
 grown cut past front old new [] later rest is =
     let same : new ≡ old = is ∙ promising-same old rest.settled in
     let still = rest_later cut past front old (omega arith) rest in
+    let none : known old ≡ known old + 0 = omega arith in
     rw same (record {
       base = refl;
       floor = refl;
       words = sym (append-nil old.words);
       settled = rest.settled;
       retired = refl;
-      before = λ f h. refl;
-      at = still.at_front ∙ (let none : known old ≡ known old + 0 = omega arith in none);
-      earlier = still.earlier;
-      no_less = rest.no_less;
-      rising = rest.rising;
+      versions = record {
+        before = λ f h. refl;
+        at = still.at_front ∙ none;
+        earlier = still.earlier;
+        no_less = subst (λ (n : ℕ). All (λ v. v.count ≤ n) old.versions) none rest.no_less;
+        rising = rest.rising;
+      };
     })
 grown cut past front old new (w ∷ ws) later rest is =
     let noted : Version = record { front = front; count = known old + suc (length ws) } in
     let all : new ≡ record old { words = old.words ++ w ∷ ws; versions = old.versions ++ noted ∷ []; promised = 0 } = is
     ∙ accepting-all front (promising old (suc (length ws))) w ws refl in
-    let longer : length (old.words ++ w ∷ ws) ≡ length old.words + suc (length ws) = length-append old.words (w ∷ ws) in
     let ahead = rest_ahead cut past front old later rest in
     let few : All (λ v. v.count ≤ noted.count) old.versions = All-weaker (λ v. v.count ≤ known old) (λ v. v.count ≤ noted.count)
     (λ v h. omega arith) old.versions rest.no_less in
-    let full : All (λ v. v.count ≤ old.floor + length (old.words ++ w ∷ ws)) old.versions =
-    All-weaker (λ v. v.count ≤ known old) (λ v. v.count ≤ old.floor + length (old.words ++ w ∷ ws)) (λ v h. omega (
-      arith,
-      h,
-      longer,
-    )) old.versions rest.no_less in
     let early : All (λ v. v.front ≤ front) old.versions = All-weaker (λ v. v.front ≤ past) (λ v. v.front ≤ front)
     (λ v h. omega arith) old.versions rest.earlier in
     rw all (record {
@@ -124,11 +124,13 @@ grown cut past front old new (w ∷ ws) later rest is =
       words = refl;
       settled = refl;
       retired = refl;
-      before = λ f h. count_at-push old.versions noted f ∙ (let no : reaches f noted ≡ false = grind (arith, nat_tests) in rw no refl);
-      at = count_at-push old.versions noted front ∙ (let reached : reaches front noted ≡ true = grind (arith, nat_tests) in rw reached refl);
-      earlier = All-push (λ v. v.front ≤ front) old.versions noted early (omega arith);
-      no_less = All-push (λ v. v.count ≤ old.floor + length (old.words ++ w ∷ ws)) old.versions noted full (omega (arith, longer));
-      rising = IsRising-push old.versions noted rest.rising ahead.later few;
+      versions = record {
+        before = λ f h. count_at-push old.versions noted f ∙ (let no : reaches f noted ≡ false = grind (arith, nat_tests) in rw no refl);
+        at = count_at-push old.versions noted front ∙ (let reached : reaches front noted ≡ true = grind (arith, nat_tests) in rw reached refl);
+        earlier = All-push (λ v. v.front ≤ front) old.versions noted early (omega arith);
+        no_less = All-push (λ v. v.count ≤ noted.count) old.versions noted few (omega arith);
+        rising = IsRising-push old.versions noted rest.rising ahead.later few;
+      };
     })
 
 -- a grown lane is at rest
@@ -139,11 +141,11 @@ grown_rest cut past front old new ws within later short rest lane =
     record {
       settled = lane.settled;
       few = omega (arith, all, rest.few, short, later);
-      earlier = lane.earlier;
-      no_less = lane.no_less;
-      rising = lane.rising;
-      at_cut = lane.before cut (omega (arith, within, later)) ∙ rest.at_cut ∙ sym lane.floor;
-      at_front = lane.at ∙ sym all;
+      earlier = lane.versions.earlier;
+      no_less = subst (λ (n : ℕ). All (λ v. v.count ≤ n) new.versions) (sym all) lane.versions.no_less;
+      rising = lane.versions.rising;
+      at_cut = lane.versions.before cut (omega (arith, within, later)) ∙ rest.at_cut ∙ sym lane.floor;
+      at_front = lane.versions.at ∙ sym all;
       retired = omega (arith, lane.retired, rest.retired);
     }
 

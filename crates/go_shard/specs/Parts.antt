@@ -5,19 +5,27 @@ use Rattle.go_word.specs.Log.{IsWithin}
 use Rattle.go_shard.specs.ShardState.{ShardState, Keeps}
 use Rattle.go_shard.specs.Stands.{Stands, HasForgotten}
 
--- the shard i of so many has its part of a log, at least up to a front; it keeps that front, and that of each view to which it has come, is
--- cut above none of them, and has no pins
-pub record HasPart (v shards i from : ℕ) (views : List ℕ) (log : List Edge) (shard : ShardState) : Type 0 where
+-- a shard is the one at an index, of so many over so many vertices
+pub record IsShardOf (v shards i : ℕ) (shard : ShardState) : Type 0 where
   pub index_is : shard.index ≡ i
   pub shards_are : shard.shards ≡ shards
   pub vertices_are : shard.vertices ≡ v
+
+-- a shard answers for views: it keeps the front of each to which it has come, and is cut above none
+pub record AnswersFor (views : List ℕ) (shard : ShardState) : Type 0 where
+  pub keeps : (n : ℕ) → Contains views n → n ≤ shard.front → Keeps shard n
+  pub uncut : (n : ℕ) → Contains views n → shard.cut ≤ n
+
+-- the shard i of so many has its part of a log, at least up to a front; it keeps that front and isn't cut above it, answers for views, and has no
+-- pins
+pub record HasPart (v shards i from : ℕ) (views : List ℕ) (log : List Edge) (shard : ShardState) : Type 0 where
+  pub whose : IsShardOf v shards i shard
   pub stands : Stands shard (take shard.front log)
   pub begun : from ≤ shard.front
   pub within : shard.front ≤ length log
   pub keeps : Keeps shard from
-  pub keeps_views : (n : ℕ) → Contains views n → n ≤ shard.front → Keeps shard n
   pub cut : shard.cut ≤ from
-  pub cut_views : (n : ℕ) → Contains views n → shard.cut ≤ n
+  pub answers : AnswersFor views shard
   pub pins : shard.pins ≡ []
 
 -- the shards have their parts of a log

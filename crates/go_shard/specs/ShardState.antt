@@ -58,16 +58,24 @@ pub record IsPinned (shard : ShardState) (pin : Pin) : Type 0 where
   pub kept : Keeps shard pin.front
   pub uncut : shard.cut ≤ pin.front
 
+-- there is a lane for each vertex of a shard
+pub record IsShaped (shards vertices : ℕ) (lanes : List Lane) : Type 0 where
+  pub shared : 0 < shards
+  pub few : vertices ≤ VERTEX_LIMIT
+  pub whole : length lanes ≡ vertices / shards + 1
+
+-- a cut and the fronts that are kept are at or below a front, which is small
+pub record AreBounded (front cut : ℕ) (fronts : Fronts) : Type 0 where
+  pub small : front < 2 ^ 32
+  pub cut_within : cut ≤ front
+  pub since : fronts.since ≤ front
+  pub earlier : All (λ range. range.last ≤ front) fronts.earlier
+
 -- a shard has a lane for each vertex of its own, and all of them are at rest between its cut and its front; it keeps both, no front past its own,
 -- and the fronts of its pins
 pub record IsSound (shard : ShardState) : Type 0 where
-  pub shared : 0 < shard.shards
-  pub small : shard.vertices ≤ VERTEX_LIMIT
-  pub lanes : length shard.lanes ≡ shard.vertices / shard.shards + 1
-  pub front : shard.front < 2 ^ 32
-  pub cut : shard.cut ≤ shard.front
-  pub since : shard.fronts.since ≤ shard.front
-  pub earlier : All (λ range. range.last ≤ shard.front) shard.fronts.earlier
+  pub shape : IsShaped shard.shards shard.vertices shard.lanes
+  pub bounds : AreBounded shard.front shard.cut shard.fronts
   pub keeps_cut : Keeps shard shard.cut
   pub pins : All (IsPinned shard) shard.pins
   pub rest : All (IsAtRest shard.cut shard.front) shard.lanes

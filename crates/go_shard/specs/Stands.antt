@@ -4,20 +4,24 @@ use Rattle.go_word.specs.declared.edge.Edge.{Edge}
 use Rattle.go_word.specs.Log.{IsWithin, entries_from, raw}
 use Rattle.go_word.specs.Neighbours.{neighbours}
 use Rattle.go_word.specs.Word.{plain_word}
+use Rattle.go_shard.specs.Lane.{Lane}
 use Rattle.go_shard.specs.ShardState.{ShardState, IsOf, Keeps, is_own, lane_of, told}
 
--- a shard stands for a log: of each of its vertices it has the neighbours at its cut, after how many entries, and the later entries in order; and
--- it tells for each front
--- that it keeps from its cut on how many there were
+-- a lane has what a log says of a vertex: the neighbours at the cut, after how many entries, and the later entries in order
+pub record IsLaneOf (cut : ℕ) (log : List Edge) (s : ℕ) (lane : Lane) : Type 0 where
+  pub base_is : lane.base ≡ neighbours (take cut log) s
+  pub floor_is : lane.floor ≡ raw (take cut log) s
+  pub words_are : lane.words ≡ map plain_word (entries_from s (drop cut log))
+
+-- a shard stands for a log: it has what the log says of each of its vertices, and tells for each front that it keeps from its cut on how many
+-- entries there were
 pub record Stands (shard : ShardState) (log : List Edge) : Type 0 where
   pub whole : length log ≡ shard.front
   pub ids : All (IsWithin shard.vertices) log
   pub cut : shard.cut ≤ shard.front
   pub keeps_front : Keeps shard shard.front
   pub keeps_cut : Keeps shard shard.cut
-  pub bases : (s : ℕ) → IsOf shard s → (lane_of shard s).base ≡ neighbours (take shard.cut log) s
-  pub floors : (s : ℕ) → IsOf shard s → (lane_of shard s).floor ≡ raw (take shard.cut log) s
-  pub words : (s : ℕ) → IsOf shard s → (lane_of shard s).words ≡ map plain_word (entries_from s (drop shard.cut log))
+  pub lanes : (s : ℕ) → IsOf shard s → IsLaneOf shard.cut log s (lane_of shard s)
   pub counts : (s f : ℕ) → IsOf shard s → Keeps shard f → shard.cut ≤ f → told shard s f ≡ raw (take f log) s
 
 -- a log goes on from the front of a shard to another front, with just these entries of this shard

@@ -1,5 +1,5 @@
 -- Each vertex in turn has its group promised, and can be taken back.
-use Rattle.std.proofs.Common.{◌≡◌, ◌<◌, ℕ, List, length, get_or, set, refl, sym, ap, subst, arith, ◌∙◌}
+use Rattle.std.proofs.Common.{◌≡◌, ◌-◌, ◌<◌, ℕ, List, length, get_or, set, sym, ap, subst, arith, ◌∙◌}
 use Rattle.std.proofs.lemmas.List.{length-set, set-get_or}
 use Rattle.go_shard.specs.Lane.{Lane, lane_at, promising, IsRestored}
 use Rattle.go_shard.specs.Groups.{size_at}
@@ -26,11 +26,9 @@ loop-place-preserved c =
       begins = begin_of-next c.args.ends.now place;
       promised = lanes_next (λ p. promising (lane_at old p) (size_at c.args.ends.now p)) old c.loop-place.slots place c.promise_listed.new.slot inside
           c.loop-place.invariant.promised here;
-      listed = listed_group old c.loop-place.slots c.args.ends.now place c.loop-place.from _
-          (get_or c.loop-place.slots place c.index-slots-place.result) c.args.listed.now.items c.loop-place.listed.items
-          c.promise_listed.new.listed.items inside c.loop-place.invariant.all was c.requires.settled c.loop-place.invariant.begins refl
-          c.in_ok-promise_listed.ensures.listed
-          c.loop-place.invariant.listed;
+      listed = listed_group c.args.listed.now.items c.loop-place.listed.items c.promise_listed.new.listed.items
+          (record { inside = within; lane = was; size = ap (λ (n : ℕ). get_or c.args.ends.now place 0 - n) c.loop-place.invariant.begins })
+          c.requires.settled c.in_ok-promise_listed.ensures.listed c.loop-place.invariant.listed;
     }
 
 pub returns-clause-ok : goal.returns-clause-ok

@@ -7,7 +7,7 @@ pub loop-i-preserved : goal.loop-i-preserved
 loop-i-preserved c =
     let e = c.in_ok-new.ensures in
     rw c.in_ok-push.ensures.items (empty_push c.args.vertices c.args.shards c.loop-i.i c.loop-i.made.items c.in_ok-new.field-0 c.loop-i.invariant
-    (record { stands = e.stands; index_is = e.index; shards_are = e.shards; vertices_are = e.vertices; pins = e.pins }))
+    (record { stands = e.stands; whose = record { index_is = e.index; shards_are = e.shards; vertices_are = e.vertices }; pins = e.pins }))
 
 pub returns : goal.returns
 returns c =

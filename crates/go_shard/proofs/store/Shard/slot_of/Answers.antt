@@ -14,13 +14,13 @@ returns-clause-lane c =
     let sound = c.self.invariant.0 in
     let within : c.args.v < c.self.inside.vertices = subst (λ (s : ShardState). c.args.v < s.vertices) (sym c.self.view_is) c.requires.within in
     let early : c.args.v / c.self.inside.shards ≤ c.self.inside.vertices / c.self.inside.shards =
-    le-div (c.args.v / c.self.inside.shards) c.self.inside.vertices c.self.inside.shards sound.shared (omega (
+    le-div (c.args.v / c.self.inside.shards) c.self.inside.vertices c.self.inside.shards sound.shape.shared (omega (
       arith,
       within,
       div-mul-le_self c.args.v c.self.inside.shards,
     )) in
     let at : c.place_of.result ≡ c.args.v / c.self.inside.shards = c.place_of.ensures ∙ ap (λ n. c.args.v / n) c.new.ensures in
-    let inside : c.place_of.result < length c.self.inside.slots.items = omega (arith, early, at, sound.lanes) in
+    let inside : c.place_of.result < length c.self.inside.slots.items = omega (arith, early, at, sound.shape.whole) in
     c.index.ensures
     ∙ get_or_default c.self.inside.slots.items c.place_of.result c.index.result.now empty_lane inside
     ∙ ap (λ k. get_or c.self.inside.slots.items k empty_lane) at
@@ -37,4 +37,4 @@ returns-clause-bounds c = λ f kept.
     (subst (λ (s : ShardState). Keeps s f) (sym c.self.view_is) kept))
 
 pub returns-clause-small : goal.returns-clause-small
-returns-clause-small c = subst (λ (s : ShardState). s.front < 2 ^ 32) c.self.view_is c.self.invariant.0.front
+returns-clause-small c = subst (λ (s : ShardState). s.front < 2 ^ 32) c.self.view_is c.self.invariant.0.bounds.small
