@@ -49,11 +49,11 @@ can_compact v so_many from limit views log shards parts least = record {
   one shard i part = record {
     keeps = elim least.one as (λ _. Keeps shard limit) [
       | inl whole ↦ subst (Keeps shard) (sym whole) part.keeps
-      | inr view ↦ part.keeps_views limit view (omega (arith, least.within, part.begun))
+      | inr view ↦ part.answers.keeps limit view (omega (arith, least.within, part.begun))
     ];
     uncut = elim least.one as (λ _. shard.cut ≤ limit) [
       | inl whole ↦ omega (arith, whole, part.cut)
-      | inr view ↦ part.cut_views limit view
+      | inr view ↦ part.answers.uncut limit view
     ];
     pins = part.pins;
   }
