@@ -16,6 +16,7 @@ use Rattle.go_versions.specs.History.{count_at}
 use Rattle.go_net.specs.Net.{net_of}
 use Rattle.go_shard.specs.declared.fronts.FrontRange.{FrontRange}
 use Rattle.go_shard.specs.Lane.{Lane, empty_lane, promising, accepting, known, list_at, lane_at, is_at}
+use Rattle.go_shard.specs.Batch.{part_of, share_of, TookParts}
 use Rattle.go_shard.specs.Listing.{AreListed, ListsBare}
 use Rattle.go_shard.specs.ShardState.{ShardState, IsOf, Keeps, is_own, lane_of, IsAtRest, IsPinned, IsSound}
 use Rattle.go_shard.specs.Stands.{Stands, GoesOn, HasGrown}
@@ -42,20 +43,11 @@ list_at-log shard log v n sound stands of enough =
     ∙ ap (λ m. fold (after_entry v) (neighbours (take shard.cut log) v) (take (n - m) later)) floor
     ∙ neighbours_from_cut v shard.cut n log (omega (arith, floor, enough))
 
--- what each lane of a shard took of a batch
-abbrev pub part_of : ℕ → List Edge → ℕ → List ℕ
-part_of shards batch place = map plain_word (filter (is_at shards place) batch)
-
--- all lanes of a shard have taken their parts of a batch
-abbrev pub TookParts : ℕ → ℕ → List Lane → List Lane → List Edge → Type 0
-TookParts shards front old new batch =
-    (place : ℕ) → lane_at new place ≡ fold (accepting front) (promising (lane_at old place) (count_by (is_at shards place) batch)) (part_of shards batch place)
-
 -- a shard has taken a batch: it has as many lanes as before
 pub record HasTaken (shard : ShardState) (front : ℕ) (batch : List Edge) (lanes : List Lane) : Type 0 where
   pub later : shard.front < front
   pub equal : length lanes ≡ length shard.lanes
-  pub took : TookParts shard.shards front shard.lanes lanes batch
+  pub took : TookParts shard.shards front batch shard.lanes lanes
 
 -- a part is as long as the batch has entries for its lane
 part_length : (shards : ℕ) (batch : List Edge) (place : ℕ) → length (part_of shards batch place) ≡ count_by (is_at shards place) batch
@@ -63,7 +55,7 @@ part_length shards batch place = length-map (filter (is_at shards place) batch) 
 
 -- so each lane is grown by its part
 pub grown_at : (shard : ShardState) (front : ℕ) (lanes : List Lane) (batch : List Edge) → IsSound shard → shard.front < front →
-    TookParts shard.shards front shard.lanes lanes batch → (place : ℕ) →
+    TookParts shard.shards front batch shard.lanes lanes → (place : ℕ) →
     IsGrown front (lane_at shard.lanes place) (lane_at lanes place) (part_of shard.shards batch place)
 grown_at shard front lanes batch sound later took place =
     let old = lane_at shard.lanes place in
@@ -73,7 +65,7 @@ grown_at shard front lanes batch sound later took place =
 
 -- a shard that took a batch is as sound as before
 pub sound_after : (shard : ShardState) (front : ℕ) (lanes : List Lane) (batch : List Edge) → IsSound shard → shard.front < front → front < 2 ^ 32 →
-    length batch ≤ front - shard.front → length lanes ≡ length shard.lanes → TookParts shard.shards front shard.lanes lanes batch →
+    length batch ≤ front - shard.front → length lanes ≡ length shard.lanes → TookParts shard.shards front batch shard.lanes lanes →
     IsSound (after_batch shard front lanes)
 sound_after shard front lanes batch sound later small short equal took = record {
   shape = record { shared = sound.shape.shared; few = sound.shape.few; whole = equal ∙ sound.shape.whole };
@@ -104,7 +96,7 @@ sound_after shard front lanes batch sound later small short equal took = record 
 
 -- it has grown
 pub has_grown : (shard : ShardState) (front : ℕ) (lanes : List Lane) (batch : List Edge) → IsSound shard → shard.front < front →
-    TookParts shard.shards front shard.lanes lanes batch → 0 < length batch → HasGrown front batch shard (after_batch shard front lanes)
+    TookParts shard.shards front batch shard.lanes lanes → 0 < length batch → HasGrown front batch shard (after_batch shard front lanes)
 has_grown shard front lanes batch sound later took some = record {
   same = refl;
   keeps_front = inr (omega arith, omega arith);
@@ -157,7 +149,7 @@ known_is shard log s sound stands of =
 
 -- and it stands for the longer log
 pub stands_after : (shard : ShardState) (log more batch : List Edge) (front : ℕ) (lanes : List Lane) → IsSound shard → shard.front < front → Stands shard log →
-    GoesOn shard more batch front → TookParts shard.shards front shard.lanes lanes batch → Stands (after_batch shard front lanes) (log ++ more)
+    GoesOn shard more batch front → TookParts shard.shards front batch shard.lanes lanes → Stands (after_batch shard front lanes) (log ++ more)
 stands_after shard log more batch front lanes sound later stands goes took =
     let own : All (λ e. is_own shard e ≡ true) batch = subst (λ (l : List Edge). All (λ e. is_own shard e
     ≡ true) l) goes.own (filter_passes (is_own shard) more) in
@@ -216,10 +208,10 @@ lent n new old equal all =
 -- the places of lanes with words are listed after a batch
 pub listed_after : (shard : ShardState) (front : ℕ) (lanes : List Lane) (batch : List Edge) (before listed : List ℕ) → IsSound shard →
     AreListed before shard.lanes → shard.front < front →
-    length lanes ≡ length shard.lanes → TookParts shard.shards front shard.lanes lanes batch →
-    ListsBare shard.lanes (λ place. count_by (is_at shard.shards place) batch) before listed → AreListed listed lanes
+    length lanes ≡ length shard.lanes → TookParts shard.shards front batch shard.lanes lanes →
+    ListsBare shard.lanes (share_of shard.shards batch) before listed → AreListed listed lanes
 listed_after shard front lanes batch before listed sound are later equal took lists =
-    still_listed_after shard.lanes lanes (λ place. count_by (is_at shard.shards place) batch) before listed (part_of shard.shards batch) equal are lists
+    still_listed_after shard.lanes lanes (share_of shard.shards batch) before listed (part_of shard.shards batch) equal are lists
     (part_length shard.shards batch)
     (λ place. (grown_at shard front lanes batch sound later took place).words)
 

@@ -2,6 +2,7 @@
 pub mod Lane
 pub mod Groups
 pub mod Listing
+pub mod Batch
 pub mod Compacting
 pub mod Fronts
 pub mod ShardState

@@ -1,8 +1,8 @@
 // A batch of entries: a place for each is promised first, and then all are taken.
-ghost use Rattle.std.specs.Prelude.{◌≡◌, ◌==◌, if◌then◌else◌, ℕ, ◌+◌, ◌/◌, ◌<◌, ◌^◌, length, All, count_by, filter, fold, map, take, OnOk, OnErr};
-ghost use Rattle.go_word.specs.Word.{IsStorable, plain_word};
-ghost use Rattle.go_shard.specs.Lane.{lane_at, is_at, promising, accepting, known, IsAhead, IsRestored};
-ghost use Rattle.go_shard.specs.Listing.{ListsBare};
+ghost use Rattle.std.specs.Prelude.{◌≡◌, ◌==◌, if◌then◌else◌, ℕ, ◌+◌, ◌/◌, ◌<◌, ◌^◌, length, All, fold, take, OnOk, OnErr};
+ghost use Rattle.go_word.specs.Word.{IsStorable};
+ghost use Rattle.go_shard.specs.Lane.{lane_at, promising, accepting, known, IsAhead, IsRestored};
+ghost use Rattle.go_shard.specs.Batch.{part_of, share_of, CanPromise, CanTakeBatch, HavePromised, HaveTakenBatch};
 
 use crate::by_groups::take_by_groups;
 use crate::listing::promise_listed;
@@ -24,49 +24,14 @@ pub(crate) fn take_batch(
     batch: &[Edge],
     front: u64,
 ) -> Result<(), AllocError>
-    requires places { length slots.old < 2 ^ 32 }
-    requires inside { All (λ e. e.src / shards < length slots.old) batch.now }
-    requires storable { All IsStorable batch.now }
-    requires few { length batch.now < 2 ^ 32 }
-    requires settled { All (λ lane. lane.promised ≡ 0) slots.old }
-    requires ahead { All (IsAhead front) slots.old }
-    requires small { All (λ lane. known lane + length batch.now < 2 ^ 32) slots.old }
-    ensures ok { OnOk result ((place : ℕ) → lane_at slots.new place ≡ fold (accepting front)
-        (promising (lane_at slots.old place) (count_by (is_at shards place) batch.now))
-        (map plain_word (filter (is_at shards place) batch.now))) }
-    ensures listed { OnOk result (ListsBare slots.old (λ place. count_by (is_at shards place) batch.now) listed.old.items listed.new.items) }
+    requires { CanTakeBatch shards front slots.old batch.now }
+    ensures ok { OnOk result (HaveTakenBatch shards front batch.now slots.old slots.new listed.old.items listed.new.items) }
     ensures err { OnErr result (slots.new ≡ slots.old) }
     ensures unlisted { OnErr result (listed.new.items ≡ listed.old.items) }
 {
-    if batch.len() < slots.len() / FEW {
-        take_by_entries(alloc, shards, slots, listed, batch, front)
-    } else {
-        take_by_groups(alloc, shards, slots, listed, batch, front)
+    if slots.len() / FEW <= batch.len() {
+        return take_by_groups(alloc, shards, slots, listed, batch, front);
     }
-}
-
-// Takes one entry after another.
-fn take_by_entries(
-    alloc: Global,
-    shards: Striping,
-    slots: &mut [Slot],
-    listed: &mut Vec<u32>,
-    batch: &[Edge],
-    front: u64,
-) -> Result<(), AllocError>
-    requires places { length slots.old < 2 ^ 32 }
-    requires inside { All (λ e. e.src / shards < length slots.old) batch.now }
-    requires storable { All IsStorable batch.now }
-    requires settled { All (λ lane. lane.promised ≡ 0) slots.old }
-    requires ahead { All (IsAhead front) slots.old }
-    requires small { All (λ lane. known lane + length batch.now < 2 ^ 32) slots.old }
-    ensures ok { OnOk result ((place : ℕ) → lane_at slots.new place ≡ fold (accepting front)
-        (promising (lane_at slots.old place) (count_by (is_at shards place) batch.now))
-        (map plain_word (filter (is_at shards place) batch.now))) }
-    ensures listed { OnOk result (ListsBare slots.old (λ place. count_by (is_at shards place) batch.now) listed.old.items listed.new.items) }
-    ensures err { OnErr result (slots.new ≡ slots.old) }
-    ensures unlisted { OnErr result (listed.new.items ≡ listed.old.items) }
-{
     promise_all(alloc, shards, slots, listed, batch)?;
     accept_all(shards, slots, batch, front);
     Ok(())
@@ -80,12 +45,8 @@ fn promise_all(
     listed: &mut Vec<u32>,
     batch: &[Edge],
 ) -> Result<(), AllocError>
-    requires places { length slots.old < 2 ^ 32 }
-    requires inside { All (λ e. e.src / shards < length slots.old) batch.now }
-    requires settled { All (λ lane. lane.promised ≡ 0) slots.old }
-    ensures ok { OnOk result ((place : ℕ) → lane_at slots.new place
-        ≡ promising (lane_at slots.old place) (count_by (is_at shards place) batch.now)) }
-    ensures listed { OnOk result (ListsBare slots.old (λ place. count_by (is_at shards place) batch.now) listed.old.items listed.new.items) }
+    requires { CanPromise shards slots.old batch.now }
+    ensures ok { OnOk result (HavePromised shards batch.now slots.old slots.new listed.old.items listed.new.items) }
     ensures err { OnErr result (slots.new ≡ slots.old) }
     ensures unlisted { OnErr result (listed.new.items ≡ listed.old.items) }
 {
@@ -106,14 +67,9 @@ fn promise_some(
     listed: &mut Vec<u32>,
     batch: &[Edge],
 ) -> Result<(), AllocError>
-    requires places { length slots.old < 2 ^ 32 }
-    requires inside { All (λ e. e.src / shards < length slots.old) batch.now }
-    requires settled { All (λ lane. lane.promised ≡ 0) slots.old }
-    ensures ok { OnOk result ((place : ℕ) → lane_at slots.new place
-        ≡ promising (lane_at slots.old place) (count_by (is_at shards place) batch.now)) }
-    ensures kept { (place : ℕ) → IsRestored
-        (count_by (is_at shards place) batch.now) (lane_at slots.old place) (lane_at slots.new place) }
-    ensures listed { OnOk result (ListsBare slots.old (λ place. count_by (is_at shards place) batch.now) listed.old.items listed.new.items) }
+    requires { CanPromise shards slots.old batch.now }
+    ensures ok { OnOk result (HavePromised shards batch.now slots.old slots.new listed.old.items listed.new.items) }
+    ensures kept { (place : ℕ) → IsRestored (share_of shards batch.now place) (lane_at slots.old place) (lane_at slots.new place) }
     ensures before { take (length listed.old.items) listed.new.items ≡ listed.old.items }
 {
     for edge in batch {
@@ -127,7 +83,7 @@ fn promise_some(
 pub(crate) fn withdraw_all(shards: Striping, slots: &mut [Slot], batch: &[Edge])
     requires inside { All (λ e. e.src / shards < length slots.old) batch.now }
     ensures { (place : ℕ) → lane_at slots.new place
-        ≡ (if count_by (is_at shards place) batch.now == 0
+        ≡ (if share_of shards batch.now place == 0
         then lane_at slots.old place else promising (lane_at slots.old place) 0) }
 {
     for edge in batch {
@@ -139,11 +95,11 @@ pub(crate) fn withdraw_all(shards: Striping, slots: &mut [Slot], batch: &[Edge])
 fn accept_all(shards: Striping, slots: &mut [Slot], batch: &[Edge], front: u64)
     requires inside { All (λ e. e.src / shards < length slots.old) batch.now }
     requires storable { All IsStorable batch.now }
-    requires promised { (place : ℕ) → (lane_at slots.old place).promised ≡ count_by (is_at shards place) batch.now }
+    requires promised { (place : ℕ) → (lane_at slots.old place).promised ≡ share_of shards batch.now place }
     requires ahead { All (IsAhead front) slots.old }
     requires small { All (λ lane. known lane + length batch.now < 2 ^ 32) slots.old }
     ensures { (place : ℕ) → lane_at slots.new place
-        ≡ fold (accepting front) (lane_at slots.old place) (map plain_word (filter (is_at shards place) batch.now)) }
+        ≡ fold (accepting front) (lane_at slots.old place) (part_of shards batch.now place) }
 {
     for edge in batch {
         let word = plain(*edge);

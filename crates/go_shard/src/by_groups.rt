@@ -1,7 +1,7 @@
 // A batch that names many vertices, taken vertex by vertex.
-ghost use Rattle.std.specs.Prelude.{◌≡◌, ℕ, ◌+◌, ◌/◌, ◌<◌, ◌≤◌, ◌^◌, length, All, count_by, filter, fold, map, take, OnOk, OnErr};
-ghost use Rattle.go_word.specs.Word.{IsStorable, plain_word};
-ghost use Rattle.go_shard.specs.Lane.{lane_at, is_at, promising, accepting, known, IsAhead, IsRestored};
+ghost use Rattle.std.specs.Prelude.{◌≡◌, ℕ, ◌+◌, ◌<◌, ◌^◌, length, All, fold, take, OnOk, OnErr};
+ghost use Rattle.go_shard.specs.Lane.{lane_at, promising, accepting, known, IsAhead, IsRestored};
+ghost use Rattle.go_shard.specs.Batch.{CanTakeBatch, HaveTakenBatch};
 ghost use Rattle.go_shard.specs.Listing.{ListsBare};
 ghost use Rattle.go_shard.specs.Groups.{size_at, group_at, IsCut};
 
@@ -22,17 +22,8 @@ pub(crate) fn take_by_groups(
     batch: &[Edge],
     front: u64,
 ) -> Result<(), AllocError>
-    requires places { length slots.old < 2 ^ 32 }
-    requires inside { All (λ e. e.src / shards < length slots.old) batch.now }
-    requires storable { All IsStorable batch.now }
-    requires few { length batch.now < 2 ^ 32 }
-    requires settled { All (λ lane. lane.promised ≡ 0) slots.old }
-    requires ahead { All (IsAhead front) slots.old }
-    requires small { All (λ lane. known lane + length batch.now < 2 ^ 32) slots.old }
-    ensures ok { OnOk result ((place : ℕ) → lane_at slots.new place ≡ fold (accepting front)
-        (promising (lane_at slots.old place) (count_by (is_at shards place) batch.now))
-        (map plain_word (filter (is_at shards place) batch.now))) }
-    ensures listed { OnOk result (ListsBare slots.old (λ place. count_by (is_at shards place) batch.now) listed.old.items listed.new.items) }
+    requires { CanTakeBatch shards front slots.old batch.now }
+    ensures ok { OnOk result (HaveTakenBatch shards front batch.now slots.old slots.new listed.old.items listed.new.items) }
     ensures err { OnErr result (slots.new ≡ slots.old) }
     ensures unlisted { OnErr result (listed.new.items ≡ listed.old.items) }
 {

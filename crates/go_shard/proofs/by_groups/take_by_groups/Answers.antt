@@ -74,17 +74,15 @@ returns-clause-ok c =
     c.deref-2.ensures.value
     ∙ ap (λ (l : List ℕ). fold (accepting c.args.front) (lane_at c.promise_groups-promised.new.slots p) (group_at c.in_ok-groups.groups.ends.items l p))
     c.deref-3.ensures.value in
-    took_groups c.args.shards c.args.front c.args.batch.now c.in_ok-groups.groups.ends.items c.in_ok-groups.groups.words.items c.args.slots.now
-    c.promise_groups-promised.new.slots c.accept_groups.new.slots c.in_ok-groups.ensures.places (c.accept_groups.auto.slots
-    ∙ c.promise_groups-promised.auto.slots) c.requires.inside c.in_ok-groups.ensures.grouped mid taken
-
-pub returns-clause-listed : goal.returns-clause-listed
-returns-clause-listed c =
-    let none : is_err c.promise_groups-promised.result ≡ false = sym c.is_err.ensures.value ∙ c.if-is_err.false in
     let listed = at_ok (ListsBare c.args.slots.now (size_at c.deref.result.now) c.args.listed.now.items
-    c.promise_groups-promised.new.listed.items) c.promise_groups-promised.result none
-    c.promise_groups-promised.ensures.listed in
+    c.promise_groups-promised.new.listed.items) c.promise_groups-promised.result none c.promise_groups-promised.ensures.listed in
     let sizes = subst (λ (l : List ℕ). ListsBare c.args.slots.now (size_at l) c.args.listed.now.items
     c.promise_groups-promised.new.listed.items) c.deref.ensures.value listed in
-    listed_batch c.args.shards c.args.batch.now c.in_ok-groups.groups.ends.items c.in_ok-groups.groups.words.items c.args.slots.now c.args.listed.now.items
-    c.promise_groups-promised.new.listed.items c.in_ok-groups.ensures.places c.requires.inside c.in_ok-groups.ensures.grouped sizes
+    record {
+      lanes = took_groups c.args.shards c.args.front c.args.batch.now c.in_ok-groups.groups.ends.items c.in_ok-groups.groups.words.items
+          c.args.slots.now c.promise_groups-promised.new.slots c.accept_groups.new.slots c.in_ok-groups.ensures.places
+          (c.accept_groups.auto.slots ∙ c.promise_groups-promised.auto.slots) c.requires.room.inside c.in_ok-groups.ensures.grouped mid taken;
+      bare = listed_batch c.args.shards c.args.batch.now c.in_ok-groups.groups.ends.items c.in_ok-groups.groups.words.items c.args.slots.now
+          c.args.listed.now.items c.promise_groups-promised.new.listed.items c.in_ok-groups.ensures.places c.requires.room.inside
+          c.in_ok-groups.ensures.grouped sizes;
+    }

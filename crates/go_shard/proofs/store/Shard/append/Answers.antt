@@ -1,12 +1,13 @@
 -- A shard that took a batch, or came to a front without one, is sound, and stands for the longer log.
-use Rattle.std.proofs.Common.{◌≡◌, ℕ, ◌<◌, ◌≤◌, ◌-◌, List, ◌∙◌, ◌++◌, ◌∷◌, [], take, drop, count_by, length, arith, subst, sym, ap}
+use Rattle.std.proofs.Common.{◌≡◌, ℕ, ◌<◌, ◌≤◌, ◌-◌, List, ◌∙◌, ◌++◌, ◌∷◌, [], take, drop, length, arith, subst, sym, ap}
 use Rattle.go_shard.specs.contracts.store.Shard.{the_view}
 use Rattle.go_shard.specs.declared.fronts.FrontRange.{FrontRange}
-use Rattle.go_shard.specs.Lane.{Lane, is_at}
+use Rattle.go_shard.specs.Lane.{Lane}
+use Rattle.go_shard.specs.Batch.{share_of, TookParts}
 use Rattle.go_shard.specs.Listing.{AreListed, ListsBare}
 use Rattle.go_shard.specs.ShardState.{ShardState}
 use Rattle.go_shard.specs.Stands.{Stands, GoesOn, HasGrown}
-use Rattle.go_shard.proofs.GrowthLemmas.{TookParts, HasTaken, some_entries, lent, sound_after, stands_after, has_grown, listed_after}
+use Rattle.go_shard.proofs.GrowthLemmas.{HasTaken, some_entries, lent, sound_after, stands_after, has_grown, listed_after}
 use Rattle.go_shard.proofs.GrowthLemmas.{sound_as, stands_as, grown_as}
 use Rattle.go_shard.proofs.ComingLemmas.{sound_on, stands_come, has_come, no_entries}
 use Rattle.go_shard.proofs.store.Shard.append.Goals.{In_ok-take_batch, After-push_reserved}
@@ -44,8 +45,8 @@ taken c =
     record {
       later = subst (λ (s : ShardState). s.front < c.args.front) (sym c.self.view_is) c.requires.later;
       equal = c.take_batch.auto.slots ∙ ap length same;
-      took = subst (λ (n : ℕ). TookParts n c.args.front old.lanes c.take_batch.new.slots c.args.batch.now) c.new-shards.ensures
-          (subst (λ (l : List Lane). TookParts c.new-shards.result c.args.front l c.take_batch.new.slots c.args.batch.now) same c.in_ok-take_batch.ensures.ok);
+      took = subst (λ (n : ℕ). TookParts n c.args.front c.args.batch.now old.lanes c.take_batch.new.slots) c.new-shards.ensures
+          (subst (λ (l : List Lane). TookParts c.new-shards.result c.args.front c.args.batch.now l c.take_batch.new.slots) same c.in_ok-take_batch.ensures.ok.lanes);
     }
 
 -- the lanes that were lent come back whole
@@ -68,9 +69,9 @@ invariant_of-self-2 c =
     let is = taken here in
     let short : length c.args.batch.now ≤ c.args.front - old.front = subst (λ (s : ShardState). length c.args.batch.now ≤ c.args.front - s.front)
     (sym c.self.view_is) c.requires.short in
-    let lists = subst (λ (l : List Lane). ListsBare l (λ place. count_by (is_at c.new-shards.result place) c.args.batch.now) c.self.inside.listed.items
-    c.take_batch.new.listed.items) c.deref_mut.ensures.value c.in_ok-take_batch.ensures.listed in
-    let named = subst (λ (n : ℕ). ListsBare old.lanes (λ place. count_by (is_at n place) c.args.batch.now) c.self.inside.listed.items
+    let lists = subst (λ (l : List Lane). ListsBare l (share_of c.new-shards.result c.args.batch.now) c.self.inside.listed.items
+    c.take_batch.new.listed.items) c.deref_mut.ensures.value c.in_ok-take_batch.ensures.ok.bare in
+    let named = subst (λ (n : ℕ). ListsBare old.lanes (share_of n c.args.batch.now) c.self.inside.listed.items
     c.take_batch.new.listed.items) c.new-shards.ensures lists in (
       sound_as old c.args.front c.push_reserved.new.self.items _ new (earlier at.After-push_reserved) (whole here)
           (sound_after old c.args.front new c.args.batch.now c.self.invariant.0 is.later c.requires.small short is.equal is.took),
