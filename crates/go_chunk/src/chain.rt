@@ -39,9 +39,10 @@ impl Model for Chain {
 }
 
 impl Chain {
-    /// A chain without words; it asks for no memory.
+    /// A chain without words; it asks for no memory, and has room for 255 at most.
     pub fn new(alloc: Global) -> Chain
-        ensures { result.words ≡ [] }
+        ensures words { result.words ≡ [] }
+        ensures room { result.spare ≤ 255 }
     {
         Chain {
             first: [0; FIRST],
