@@ -131,6 +131,7 @@ impl Versions {
         requires { self.now.retired ≤ front }
         ensures retired { IfOk result (λ copy. copy.retired ≡ front) }
         ensures kept { IfOk result (λ copy. copy.versions ≡ drop (count_by (reaches front) self.now.versions - 1) self.now.versions) }
+        ensures few { IfOk result (λ copy. count_by (reaches front) copy.versions ≤ 1) }
         ensures at { IfOk result (λ copy. (f : ℕ) → front ≤ f → count_at copy.versions f ≡ count_at self.now.versions f) }
     {
         let mut copy = Versions {

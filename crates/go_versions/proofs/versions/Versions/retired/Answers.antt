@@ -1,9 +1,10 @@
 -- The versions from the last that reaches the front on are copied one by one.
-use Rattle.std.proofs.Common.{◌≡◌, ◌<◌, ◌≤◌, ◌-◌, ◌+◌, ◌++◌, ◌∷◌, [], length, take, drop, get_or, take_all, length-drop, refl, ap, sym, subst, arith, ◌∙◌}
+use Rattle.std.proofs.Common.{◌≡◌, ◌<◌, ◌≤◌, ◌-◌, ◌++◌, ◌∷◌, [], length, drop, get_or, take_all, length-drop, refl, ap, sym, subst, arith, ◌∙◌}
 use Rattle.std.specs.Prelude.{All}
 use Rattle.go_versions.specs.Version.{Version}
 use Rattle.go_versions.specs.History.{IsBefore}
-use Rattle.go_versions.proofs.HistoryLemmas.{between_before, one_more_kept, has_retired}
+use Rattle.go_versions.proofs.HistoryLemmas.{HasRetired, between_before, one_more_kept, has_retired}
+use Rattle.go_versions.proofs.versions.Versions.retired.Goals.{After-loop-place}
 use Rattle.go_versions.proofs.versions.Versions.retired.Goals as goal
 
 pub note-requires-clause-later : goal.note-requires-clause-later
@@ -45,8 +46,9 @@ loop-place-preserved c =
       within = omega (arith, inside);
     }
 
-pub returns-clause-kept : goal.returns-clause-kept
-returns-clause-kept c =
+-- what was copied are the versions that are left
+has : (c : After-loop-place) → HasRetired c.args.front c.args.self.now.versions c.loop-place.copy.versions
+has c =
     let vs = c.args.self.now.versions in
     let first = c.saturating_sub-first.result in
     let all : length (drop first vs) ≤ c.loop-place.place - first = omega (
@@ -56,21 +58,14 @@ returns-clause-kept c =
       c.len-place-end.ensures.count,
     ) in
     let left = c.loop-place.invariant.copied ∙ take_all (c.loop-place.place - first) (drop first vs) all in
-    let retired = has_retired c.args.front vs vs c.loop-place.copy.versions c.reached.result refl c.reached.ensures.bound c.reached.ensures.parts (left
-    ∙ ap (λ k. drop k vs) c.saturating_sub-first.ensures) in
-    retired.kept
+    has_retired c.args.front vs vs c.loop-place.copy.versions c.reached.result refl c.reached.ensures.bound c.reached.ensures.parts (left
+    ∙ ap (λ k. drop k vs) c.saturating_sub-first.ensures)
+
+pub returns-clause-kept : goal.returns-clause-kept
+returns-clause-kept c = (has (goal.at.returns-clause-kept c).After-loop-place).kept
+
+pub returns-clause-few : goal.returns-clause-few
+returns-clause-few c = (has (goal.at.returns-clause-few c).After-loop-place).few
 
 pub returns-clause-at : goal.returns-clause-at
-returns-clause-at c f le =
-    let vs = c.args.self.now.versions in
-    let first = c.saturating_sub-first.result in
-    let all : length (drop first vs) ≤ c.loop-place.place - first = omega (
-      arith,
-      length-drop first vs,
-      c.loop-place-test.false,
-      c.len-place-end.ensures.count,
-    ) in
-    let left = c.loop-place.invariant.copied ∙ take_all (c.loop-place.place - first) (drop first vs) all in
-    let retired = has_retired c.args.front vs vs c.loop-place.copy.versions c.reached.result refl c.reached.ensures.bound c.reached.ensures.parts (left
-    ∙ ap (λ k. drop k vs) c.saturating_sub-first.ensures) in
-    retired.at f le
+returns-clause-at c f le = (has (goal.at.returns-clause-at c).After-loop-place).at f le
