@@ -1,7 +1,7 @@
 -- What it means that the listed lanes of a shard are compacted; no public contract speaks of it.
-use Rattle.std.specs.Prelude.{◌≡◌, ◌⊎◌, ℕ, ◌<◌, ◌≤◌, if◌then◌else◌, true, false, List, ◌++◌, length, get_or, Option, None, Some}
+use Rattle.std.specs.Prelude.{◌≡◌, ◌⊎◌, ℕ, ◌<◌, ◌≤◌, if◌then◌else◌, true, false, List, ◌++◌, length, get_or, count_by, Option, None, Some}
 use Rattle.go_word.specs.Word.{decode}
-use Rattle.go_versions.specs.History.{count_at}
+use Rattle.go_versions.specs.History.{count_at, reaches}
 use Rattle.go_shard.specs.declared.renewal.Renewal.{Renewal}
 use Rattle.go_shard.specs.Lane.{Lane, lane_at, known, IsCompacted}
 
@@ -33,11 +33,17 @@ renewed renewal lane = record {
 pub record HasRoomFor (renewal : Renewal) (lane : Lane) : Type 0 where
   pub room : renewal.grows ≡ true → length renewal.base.value.list.items ≤ lane.spare
 
+-- a renewal holds on to little memory: its chain has room for few words beside those that it has, and one version at most is at or below the front
+pub record IsSmall (front : ℕ) (renewal : Renewal) : Type 0 where
+  pub words : renewal.tail.spare ≤ 255
+  pub versions : count_by (reaches front) renewal.versions.versions ≤ 1
+
 -- a renewal is that of a lane, compacted at a front: some more of its entries are before the cut
 pub record IsRenewalOf (front : ℕ) (lane : Lane) (renewal : Renewal) : Type 0 where
   pub more : lane.floor < renewal.base.value.floor
   pub there : renewal.base.value.floor ≤ known lane
   pub room : HasRoomFor renewal lane
+  pub small : IsSmall front renewal
   pub compacted : IsCompacted front lane (renewed renewal lane)
 
 -- what a lane becomes when it is compacted at a front: without a renewal it stays what it is

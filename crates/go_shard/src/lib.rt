@@ -41,4 +41,8 @@ pub use splitting::split;
 pub use store::Shard;
 
 #[cfg(test)]
+mod compaction_tests;
+#[cfg(test)]
+mod fixture;
+#[cfg(test)]
 mod tests;

@@ -48,10 +48,11 @@ fn between(alloc: Global, chain: &Chain, from: usize, to: usize) -> Result<Vec<u
     Ok(words)
 }
 
-/// The words of a chain behind its first ones, in a chain of their own.
+/// The words of a chain behind its first ones, in a chain of their own, which has room for few more.
 pub(crate) fn tail_behind(alloc: Global, chain: &Chain, count: usize) -> Result<Chain, AllocError>
     requires { count ≤ length chain.now.words }
-    ensures { IfOk result (λ tail. tail.words ≡ drop count chain.now.words) }
+    ensures words { IfOk result (λ tail. tail.words ≡ drop count chain.now.words) }
+    ensures room { IfOk result (λ tail. tail.spare ≤ 255) }
 {
     let mut tail = Chain::new(alloc);
     let end = chain.len();
