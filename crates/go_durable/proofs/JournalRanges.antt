@@ -1,13 +1,13 @@
 -- Lemmas on journals of which a range is read.
-use Rattle.std.proofs.Common.{◌≡◌, ℕ, ◌+◌, ◌-◌, ◌≤◌, false, List, [], ◌++◌, length, take, drop, Option, None, Some, refl, ap, arith, sym, subst, ◌∙◌, inl, inr}
+use Rattle.std.proofs.Common.{◌≡◌, ℕ, ◌-◌, ◌≤◌, false, List, [], ◌++◌, length, take, drop, Option, None, Some, refl, ap, arith, sym, subst, ◌∙◌, inl}
 use Rattle.std.specs.Prelude.{IfSome, IsSome, true, Err}
 use Rattle.std.proofs.lemmas.List.{drop-take, take-take}
 use Rattle.go_text.specs.Causes.{Rose}
 use Rattle.go_word.specs.declared.edge.Edge.{Edge}
 use Rattle.go_blocks.specs.File.{File}
 use Rattle.go_disk.specs.Device.{Device}
-use Rattle.go_durable.specs.Appending.{IsSpent as WasSpent, disk_after}
-use Rattle.go_durable.specs.Journal.{journal_front, Keeps, KeepsOn}
+use Rattle.go_durable.specs.Appending.{disk_after}
+use Rattle.go_durable.specs.Journal.{Keeps, KeepsOn}
 use Rattle.go_durable.specs.JournalRanging.{IsRanged}
 use Rattle.go_durable.specs.LogState.{LogState}
 use Rattle.go_durable.specs.Moments.{LeavesOnly}

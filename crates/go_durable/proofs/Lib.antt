@@ -12,4 +12,5 @@ pub mod Journals
 pub mod Finishing
 pub mod Ranges
 pub mod RangeSteps
+pub mod Runs
 pub mod JournalRanges

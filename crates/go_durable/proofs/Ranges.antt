@@ -1,10 +1,10 @@
 -- Reading the words of a range of the log.
 use Rattle.std.proofs.Common.{◌≡◌, ℕ, zero, suc, ◌+◌, ◌-◌, ◌*◌, ◌<◌, ◌≤◌, List, [], ◌∷◌, ◌++◌, length, take, drop, refl, sym, ap, ◌∙◌}
 use Rattle.std.proofs.Common.{take-append-drop, take-add, append_assoc, append-nil, arith}
-use Rattle.std.specs.Prelude.{All, IfSome, Option, None, Some}
+use Rattle.std.specs.Prelude.{All}
 use Rattle.std.specs.List.{flat_map}
 use Rattle.std.proofs.Math.Seq.{drop-append-add}
-use Rattle.std.proofs.lemmas.List.{drop_at, drop-append-le, drop-drop, drop-take, take-take, length-drop}
+use Rattle.std.proofs.lemmas.List.{drop_at, drop-append-le, drop-drop, drop-take, take-take, length-take, length-drop}
 use Rattle.std.proofs.lemmas.List.Elements.{All-head, All-tail, All-drop}
 use Rattle.byteorder.specs.Numbers.{little_from-append, little_from-take, little_number-reads_back}
 use Rattle.go_word.specs.declared.edge.Edge.{Edge}
@@ -13,7 +13,6 @@ use Rattle.go_word.specs.Log.{IsWithin}
 use Rattle.go_word.specs.Word.{IsStorable, plain_word, decode}
 use Rattle.go_word.proofs.WordLaws.{decode-plain_word, plain_word-lt}
 use Rattle.byteorder.specs.Endian.{little_number}
-use Rattle.go_disk.specs.Disk.{Shows}
 use Rattle.go_blocks.specs.declared.layout.TheConstants.{WORDS_AT}
 use Rattle.go_blocks.specs.declared.log_file.BlockPlace.{BlockPlace}
 use Rattle.go_blocks.specs.File.{word_bytes}
@@ -34,11 +33,6 @@ pub record IsBetween (places : List BlockPlace) (entry low high : ℕ) : Type 0 
   pub some : 0 < length places → low < high
   pub begins : entries_at (take low places) ≤ entry
   pub ends : entry < entries_at places → entry < entries_at (take high places)
-
--- so many entries were added behind those that there were
-pub record HasReadTo (a at : ℕ) (before after : List Edge) : Type 0 where
-  pub many : length after ≡ length before + (at - a)
-  pub front : take (length before) after ≡ before
 
 -- words that stand in front are read alike, whatever stands behind
 pub entries_front : (n : ℕ) (xs ys : List ℕ) → 8 * n ≤ length xs → entries_in n (xs ++ ys) ≡ entries_in n xs
@@ -84,15 +78,23 @@ entry_more count counter items all rest word after w e more so_far word_is after
 pub entries_done : (left : ℕ) (items all : List Edge) (rest : List ℕ) → left ≡ 0 → items ++ entries_in left rest ≡ all → items ≡ all
 entries_done left items all rest none so_far = sym (append-nil items) ∙ ap (λ (k : ℕ). items ++ entries_in k rest) (sym none) ∙ so_far
 
--- the words that a disk shows are read as those that it tells of
-pub shown_words : (contents : Option (List ℕ)) (from count : ℕ) (out : List ℕ) → length out ≡ 8 * count → IfSome contents (λ bytes. Shows bytes from out)
-    → IfSome contents (λ bytes. entries_in count out ≡ entries_in count (drop from bytes))
-shown_words None from count out size shown = tt
-shown_words (Some bytes) from count out size shown =
-    let behind : List ℕ = drop from bytes in
-    let parts : behind ≡ out ++ drop (length out) behind = sym (take-append-drop (length out) behind)
-    ∙ ap (λ (l : List ℕ). l ++ drop (length out) behind) (sym shown.shown) in
-    sym (ap (entries_in count) parts ∙ entries_front count out (drop (length out) behind) (omega (arith, size)))
+-- words of a stretch that was taken out of a file are read as those at their place in it
+pub taken_words : (n skip from len : ℕ) (file : List ℕ) → skip + 8 * n ≤ length (take len (drop from file))
+    → entries_in n (take (8 * n) (drop skip (take len (drop from file)))) ≡ entries_in n (drop (from + skip) file)
+taken_words n skip from len file long =
+    let stretch : List ℕ = take len (drop from file) in
+    let here : List ℕ = drop skip stretch in
+    let behind : List ℕ = drop (from + skip) file in
+    let size = length-take len (drop from file) in
+    let same : here ≡ take (len - skip) behind =
+    ap (λ (k : ℕ). drop skip (take k (drop from file))) (omega (arith, long, size)) ∙ drop-take skip (len - skip) (drop from file)
+    ∙ ap (take (len - skip)) (drop-drop skip from file) in
+    let enough : 8 * n ≤ length here = omega (arith, long, length-drop skip stretch) in
+    sym (entries_front n (take (8 * n) here) (drop (8 * n) here) (omega (arith, enough, length-take (8 * n) here)))
+    ∙ ap (entries_in n) (take-append-drop (8 * n) here)
+    ∙ ap (entries_in n) same
+    ∙ sym (entries_front n (take (len - skip) behind) (drop (len - skip) behind) (omega (arith, enough, ap length same)))
+    ∙ ap (entries_in n) (take-append-drop (len - skip) behind)
 
 -- the words behind the first of them
 pub drop_words : (k : ℕ) (es : List Edge) → k ≤ length es → drop (8 * k) (flat_map word_bytes es) ≡ flat_map word_bytes (drop k es)

@@ -3,7 +3,7 @@ use Rattle.std.specs.Prelude.{◌≡◌, ℕ, ◌+◌, ◌-◌, false, List, len
 use Rattle.go_word.specs.declared.edge.Edge.{Edge}
 use Rattle.go_api.specs.declared.stop.Stop.{Stop}
 use Rattle.go_disk.specs.Device.{Device}
-use Rattle.go_durable.specs.Journal.{journal_front, block_count, is_spent, Keeps, IsStopped}
+use Rattle.go_durable.specs.Journal.{block_count, is_spent, Keeps, IsStopped}
 use Rattle.go_durable.specs.Ranging.{AddsRange}
 use Rattle.go_durable.specs.declared.journal.Journal.{Journal}
 

@@ -9,6 +9,7 @@ pub mod Attaching
 pub mod Handing
 pub mod Reading
 pub mod Ranging
+pub mod Runs
 pub mod Journal
 pub mod JournalRanging
 pub mod Finishing

@@ -1,5 +1,5 @@
 -- What reading a range of a log comes to.
-use Rattle.std.specs.Prelude.{◌≡◌, ℕ, zero, suc, ◌+◌, ◌-◌, ◌<◌, ◌≤◌, List, [], ◌∷◌, ◌++◌, length, take, drop, Option, IfSome, Result, Ok, Err}
+use Rattle.std.specs.Prelude.{◌≡◌, ℕ, zero, suc, ◌+◌, ◌-◌, ◌<◌, ◌≤◌, List, [], ◌∷◌, ◌++◌, length, take, drop, IfSome, Result, Ok, Err}
 use Rattle.go_text.specs.Causes.{Rose}
 use Rattle.go_word.specs.declared.edge.Edge.{Edge}
 use Rattle.go_word.specs.Word.{decode}
@@ -7,12 +7,10 @@ use Rattle.byteorder.specs.Endian.{little_number}
 use Rattle.go_blocks.specs.File.{File}
 use Rattle.go_blocks.specs.declared.log_file.BlockPlace.{BlockPlace}
 use Rattle.go_disk.specs.Device.{Device}
-use Rattle.go_disk.specs.Disk.{Looks}
 use Rattle.go_durable.specs.declared.fault.LogFault.{LogFault}
 use Rattle.go_durable.specs.declared.fault.LogFault.TheVariants.{Disk, Memory}
 use Rattle.go_durable.specs.Appending.{HasImage}
 use Rattle.go_durable.specs.LogState.{LogState, entries_at}
-use Rattle.go_durable.specs.Moments.{LeavesOnly}
 use Rattle.go_durable.specs.Standing.{IsLog}
 
 -- the entries of so many words in a row
@@ -25,18 +23,6 @@ pub record HasEntry (places : List BlockPlace) (i entry : ℕ) : Type 0 where
   pub within : i < length places
   pub begins : entries_at (take i places) ≤ entry
   pub ends : entry < entries_at (take (i + 1) places)
-
--- calls only looked at the disk, and asked for what is there
-pub record LooksOnly {D : Type 0} (device : Device D) (old new : D) : Type 0 where
-  pub looks : Looks device old new
-  pub moments : LeavesOnly device old new (device.images old)
-
--- so many entries were added, those of the words from a place on, where the disk tells
-pub record AddsWords (contents : Option (List ℕ)) (at count : ℕ) (old new : List Edge) : Type 0 where
-  pub more : List Edge
-  pub added : new ≡ old ++ more
-  pub so_many : length more ≡ count
-  pub shown : IfSome contents (λ bytes. more ≡ entries_in count (drop at bytes))
 
 -- the entries of a log from one place up to another were added
 pub record AddsRange (log : List Edge) (a b : ℕ) (old new : List Edge) : Type 0 where

@@ -27,6 +27,7 @@ mod making;
 mod opening;
 mod range;
 mod ranged;
+mod run;
 mod through;
 mod whole;
 

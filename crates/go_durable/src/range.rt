@@ -1,31 +1,35 @@
 // Reading a range of the entries of a log.
-ghost use Rattle.std.specs.Prelude.{◌≡◌, ◌+◌, ◌-◌, ◌*◌, ◌<◌, ◌≤◌, ◌^◌, All, List, ℕ, length, min, IfOk, OnErr, OnOk, take, vec_len, vec_capacity, ◌++◌, IfSome};
+ghost use Rattle.std.specs.Prelude.{◌≡◌, ◌+◌, ◌-◌, ◌*◌, ◌<◌, ◌≤◌, ◌^◌, List, length, min, IfOk, OnErr, OnOk, take, vec_len, vec_capacity, IfSome};
 ghost use Rattle.go_text.specs.Causes.{HasCause};
 ghost use Rattle.go_word.specs.declared.edge.Edge.{Edge};
 ghost use Rattle.go_blocks.specs.File.{File};
 ghost use Rattle.go_blocks.specs.declared.layout.TheConstants.{COUNT_LIMIT};
+ghost use Rattle.go_disk.specs.Disk.{Looks};
 ghost use Rattle.go_durable.specs.Appending.{disk_after};
-ghost use Rattle.go_durable.specs.LogState.{LogState, AreInRow, IsPlacedBefore, entries_at};
+ghost use Rattle.go_durable.specs.LogState.{LogState, entries_at};
 ghost use Rattle.go_durable.specs.Moments.{LeavesOnly};
-ghost use Rattle.go_durable.specs.Ranging.{ReadsRange, LooksOnly, AddsWords, AddsRange, entries_in};
+ghost use Rattle.go_durable.specs.Ranging.{ReadsRange, AddsRange};
+ghost use Rattle.go_durable.specs.Runs.{AddsCount, AreBlocks, HasWords, IsRun, gate_behind, place_of_word, run_length};
 ghost use Rattle.go_durable.specs.Standing.{IsLog};
 ghost use Rattle.go_durable.specs.Writing.{IsThere};
+ghost use Rattle.go_durable.specs.declared.limits.TheConstants.{READ_LIMIT};
 
 use crate::durable_log::DurableLog;
 use crate::fault::LogFault;
-use crate::finding::{block_of, entries_before};
-use crate::limits::WORD_LENGTH;
-use byteorder::{ByteOrder, LittleEndian};
-use go_blocks::{BlockPlace, COUNT_LIMIT, WORDS_AT};
+use crate::finding::{block_of, word_at};
+use crate::limits::READ_LIMIT;
+use crate::run::{Run, add_run, range_length, run_from};
+use go_blocks::BlockPlace;
 use go_disk::{Disk, Failed};
-use go_word::{Edge, decode};
+use go_word::Edge;
 use std::alloc::AllocError;
 
 impl<D: Disk> DurableLog<D> {
     /// Appends the entries from one place in the log up to another to `out`, read from the disk.
     ///
     /// `Memory` comes before any call of the disk, with the log as it was. After `Disk` the log is spent. After either
-    /// `out` is as it was. Beside `out` it takes memory for the words of a full block at most.
+    /// `out` is as it was. One call of the disk reads as many blocks as 512 KiB hold; beside `out` it takes no more
+    /// memory, and no more than the range takes in the file.
     pub fn read_range(
         self,
         a: u64,
@@ -51,7 +55,8 @@ impl<D: Disk> DurableLog<D> {
             places,
         } = self;
         let before = out.len();
-        let Ok(mut words) = words_with_room((b - a) as usize, out) else {
+        let bytes = range_length(&places, a, b);
+        let Ok(mut words) = words_with_room(bytes, (b - a) as usize, out) else {
             return Err(LogFault::Memory {
                 log: DurableLog {
                     disk,
@@ -62,7 +67,7 @@ impl<D: Disk> DurableLog<D> {
                 },
             });
         };
-        let Ok(()) = read_places(&mut disk, &places, gate, a, b, &mut words, out) else {
+        let Ok(()) = read_places(&mut disk, &places, a, b, &mut words, out) else {
             out.truncate(before);
             return Err(LogFault::Disk { disk });
         };
@@ -76,24 +81,22 @@ impl<D: Disk> DurableLog<D> {
     }
 }
 
-// A buffer for the words of so many entries or of a full block, and room for the entries.
-fn words_with_room(count: usize, out: &mut Vec<Edge>) -> Result<Vec<u8>, AllocError>
+// A buffer of so many bytes or of as many as one call reads, and room for so many entries.
+fn words_with_room(bytes: usize, count: usize, out: &mut Vec<Edge>) -> Result<Vec<u8>, AllocError>
     requires { count < 2 ^ 32 }
-    ensures words { IfOk result (λ words. length words.items ≡ 8 * min count COUNT_LIMIT) }
+    ensures words { IfOk result (λ words. length words.items ≡ min bytes READ_LIMIT) }
     ensures same { out.new.items ≡ out.old.items }
     ensures room { OnOk result (vec_len out.new + count ≤ vec_capacity out.new) }
 {
-    let most = count.min(COUNT_LIMIT as usize);
-    let words = vec![in *out.allocator(); 0; WORD_LENGTH * most]?;
+    let words = vec![in *out.allocator(); 0; bytes.min(READ_LIMIT)]?;
     out.reserve(count)?;
     Ok(words)
 }
 
-// Reads the entries from a up to b, block after block from the one that has the first of them, for which there is room.
+// Reads the entries from a up to b, run after run from the block that has the first of them, for which there is room.
 fn read_places<D: Disk>(
     disk: &mut D,
     places: &[BlockPlace],
-    gate: u64,
     a: u64,
     b: u64,
     words: &mut [u8],
@@ -101,72 +104,60 @@ fn read_places<D: Disk>(
 ) -> Result<(), Failed>
     requires order { a ≤ b }
     requires within { b ≤ entries_at places.now }
-    requires few { entries_at places.now < 2 ^ 32 }
-    requires placed { All (IsPlacedBefore gate) places.now }
-    requires in_row { AreInRow places.now }
-    requires words { length words.old ≡ 8 * min (b - a) COUNT_LIMIT }
+    requires blocks { AreBlocks places.now }
+    requires words { 8 * min (b - a) COUNT_LIMIT ≤ length words.old }
     requires room { vec_len out.old + (b - a) ≤ vec_capacity out.old }
 
-    ensures looks { IsThere (D.device.contents disk.old) gate → LooksOnly D.device disk.old disk.new }
+    ensures looks { Looks D.device disk.old disk.new }
+    ensures moments { IsThere (D.device.contents disk.old) (gate_behind places.now) →
+        LeavesOnly D.device disk.old disk.new (D.device.images disk.old) }
     ensures front { take (length out.old.items) out.new.items ≡ out.old.items }
     ensures many { OnOk result (length out.new.items ≡ length out.old.items + (b - a)) }
-    ensures shown { (v front : ℕ) (log : List Edge) →
-        IsLog D.device (record { disk = disk.old; vertices = v; front = front; gate = gate; places = places.now }) log →
-        OnOk result (IfSome (D.device.contents disk.old) (λ bytes. AddsRange log a b out.old.items out.new.items)) }
+    ensures shown { OnOk result (IfSome (D.device.contents disk.old) (λ file.
+        (log : List Edge) → HasWords places.now file log → AddsRange log a b out.old.items out.new.items)) }
     ensures cause { HasCause (D.device.faults disk.old) (D.device.faults disk.new) result }
 {
     let mut at = a;
     let mut number = block_of(places, a);
     while at < b {
-        let place = places[number];
-        let start = entries_before(places, number);
-        let count = b.min(start + place.count as u64) - at;
-        let from = place.gate + WORDS_AT + WORD_LENGTH as u64 * (at - start);
-        let Ok(()) = read_words(disk, from, count as usize, words, out) else {
+        let run = run_from(places, number, at, b, words.len());
+        let Ok(()) = read_run(disk, places, run, words, out) else {
             return Err(Failed);
         };
-        at += count;
-        number += 1;
+        at = run.upto;
+        number = run.last + 1;
     }
     Ok(())
 }
 
-// Reads so many words from a place on, and adds their entries, for which there is room.
-fn read_words<D: Disk>(
+// Reads a run by one call of the disk, and adds its entries, for which there is room.
+fn read_run<D: Disk>(
     disk: &mut D,
-    from: u64,
-    count: usize,
+    places: &[BlockPlace],
+    run: Run,
     words: &mut [u8],
     out: &mut Vec<Edge>,
 ) -> Result<(), Failed>
-    requires words { 8 * count ≤ length words.old }
-    requires room { vec_len out.old + count ≤ vec_capacity out.old }
-    ensures looks { IsThere (D.device.contents disk.old) (from + 8 * count) → LooksOnly D.device disk.old disk.new }
-    ensures read { OnOk result (AddsWords (D.device.contents disk.old) from count out.old.items out.new.items) }
+    requires blocks { AreBlocks places.now }
+    requires run { IsRun places.now run }
+    requires fits { run_length run ≤ length words.old }
+    requires room { vec_len out.old + (run.upto - run.from) ≤ vec_capacity out.old }
+
+    ensures looks { Looks D.device disk.old disk.new }
+    ensures moments { IsThere (D.device.contents disk.old) (place_of_word run.last run.upto) →
+        LeavesOnly D.device disk.old disk.new (D.device.images disk.old) }
+    ensures added { OnOk result (AddsCount (run.upto - run.from) out.old.items out.new.items) }
+    ensures shown { OnOk result (IfSome (D.device.contents disk.old) (λ file.
+        (log : List Edge) → HasWords places.now file log → AddsRange log run.from run.upto out.old.items out.new.items)) }
     ensures same { OnErr result (out.new.items ≡ out.old.items) }
     ensures words { length words.new ≡ length words.old }
     ensures room { vec_capacity out.old ≤ vec_capacity out.new }
     ensures cause { HasCause (D.device.faults disk.old) (D.device.faults disk.new) result }
 {
-    let (taken, _) = words.split_at_mut(WORD_LENGTH * count);
-    let Ok(()) = disk.read(from, taken) else {
+    let (taken, _) = words.split_at_mut(run.length());
+    let Ok(()) = disk.read(word_at(run.first, run.from), taken) else {
         return Err(Failed);
     };
-    add_entries(taken, count, out);
+    add_run(places, run, taken, out);
     Ok(())
-}
-
-// Adds the entries of so many words, for which there is room.
-fn add_entries(words: &[u8], count: usize, out: &mut Vec<Edge>)
-    requires words { length words.now ≡ 8 * count }
-    requires room { vec_len out.old + count ≤ vec_capacity out.old }
-    ensures added { out.new.items ≡ out.old.items ++ entries_in count words.now }
-    ensures room { vec_capacity out.old ≤ vec_capacity out.new }
-{
-    let mut rest = words;
-    for _ in 0..count {
-        let (word, after) = rest.split_at(WORD_LENGTH);
-        out.push(decode(LittleEndian::read_u64(word))).unwrap();
-        rest = after;
-    }
 }

@@ -1,80 +1,63 @@
--- The steps of `read_places`: before the first block, a block more, a read that failed, and the end.
-use Rattle.std.proofs.Common.{ℕ, List, ◌≡◌, ◌+◌, ◌-◌, ◌*◌, length, get_or, take, sym, ap, ◌∙◌, arith, subst, length-append}
-use Rattle.std.proofs.lemmas.List.{take_all}
-use Rattle.std.specs.Prelude.{min, Option, IfSome}
-use Rattle.go_blocks.specs.declared.layout.TheConstants.{WORDS_AT}
-use Rattle.go_durable.specs.LogState.{IsPlacedBefore, entries_at}
-use Rattle.go_durable.specs.Ranging.{HasEntry, LooksOnly, AddsWords, AddsRange}
+-- The steps of `read_places`: a run more, and a read that failed.
+use Rattle.std.proofs.Common.{ℕ, List, ◌-◌, sym, arith, subst}
+use Rattle.std.specs.Prelude.{Option, IfSome}
+use Rattle.go_word.specs.declared.edge.Edge.{Edge}
+use Rattle.go_durable.specs.Moments.{LeavesOnly}
+use Rattle.go_durable.specs.Ranging.{AddsRange}
+use Rattle.go_durable.specs.Runs.{HasWords, gate_behind, place_of_word}
 use Rattle.go_durable.specs.Writing.{IsThere}
-use Rattle.go_durable.proofs.Ranges.{IsAt}
-use Rattle.go_durable.proofs.RangeSteps.{no_place, next_entries, there_before, none_added, looks_none, looks_more, log_is_there, read_on, range_on}
-use Rattle.go_durable.proofs.RangeSteps.{read_more, place_of_word}
+use Rattle.go_durable.proofs.RangeSteps.{counts_join, if_both, leaves_more, looks_more, ranges_join, there_before}
+use Rattle.go_durable.proofs.Runs.{run_bounds, next_has}
 use Rattle.go_durable.proofs.range.read_places.Given.{Over}
-use Rattle.go_durable.proofs.range.read_places.Goals.{After-read_words}
+use Rattle.go_durable.proofs.range.read_places.Goals.{After-read_run}
 use Rattle.go_durable.proofs.range.read_places.Goals as goal
 
--- the disk is only looked at, up to the read of a block
-looked : (g : Over) (c : After-read_words g) → IsThere (g.D.Disk.device.contents c.args.disk.now) c.args.gate
-    → LooksOnly g.D.Disk.device c.args.disk.now c.read_words.new.disk
-looked g c there =
-    let i = c.loop-at.number in
+-- no image is new, up to the read of a run
+moments : (g : Over) (c : After-read_run g) → IsThere (g.D.Disk.device.contents c.args.disk.now) (gate_behind c.args.places.now)
+    → LeavesOnly g.D.Disk.device c.args.disk.now c.read_run.new.disk (g.D.Disk.device.images c.args.disk.now)
+moments g c there =
+    let device = g.D.Disk.device in
     let inv = c.loop-at.invariant in
-    let place = get_or c.args.places.now i no_place in
-    let so_far = inv.looks there in
-    let here : HasEntry c.args.places.now i c.loop-at.at = inv.place.next c.loop-at-test.true in
-    let placed : IsPlacedBefore c.args.gate place = c.requires.placed i no_place here.within in
-    let end : ℕ = place.gate + WORDS_AT + 8 * (c.loop-at.at - c.entries_before-start.result) + 8 * (c.min.result - c.loop-at.at) in
-    looks_more g.D.Disk.device c.args.disk.now c.loop-at.disk c.read_words.new.disk so_far (c.read_words.ensures.looks
-    (subst (λ (o : Option (List ℕ)). IsThere o end) (sym so_far.looks.contents)
-    (there_before (g.D.Disk.device.contents c.args.disk.now) end c.args.gate
-    (omega (arith, placed.ends, here.begins, next_entries c.args.places.now i here.within)) there)))
+    let run = c.run_from-run.result in
+    let bounds = run_bounds c.args.places.now run c.run_from-run.ensures.is_run in
+    let end : ℕ = place_of_word run.last run.upto in
+    leaves_more device c.args.disk.now c.loop-at.disk c.read_run.new.disk inv.looks (inv.moments there)
+    (c.read_run.ensures.moments (subst (λ (o : Option (List ℕ)). IsThere o end) (sym inv.looks.contents)
+    (there_before (device.contents c.args.disk.now) end (gate_behind c.args.places.now) (omega (arith, bounds.blocks, bounds.entries)) there)))
 
-pub loop-at-init : goal.loop-at-init
-loop-at-init g c = record {
-  place = record { from = omega arith; upto = c.requires.order; next = λ some. c.block_of-number.ensures (omega arith) };
-  words = c.requires.words;
-  room = c.requires.room;
-  read = record { many = omega (arith); front = take_all (length c.args.out.now.items) c.args.out.now.items (omega arith) };
-  looks = λ there. looks_none g.D.Disk.device g.met.D.Disk.rules c.args.disk.now;
-  shown = λ v front log is. none_added (g.D.Disk.device.contents c.args.disk.now) log c.args.a c.args.out.now.items;
-  faults = omega arith;
-}
-
-pub returns-in_default-clause-looks : goal.returns-in_default-clause-looks
-returns-in_default-clause-looks g c = λ there. looked g (goal.at.returns-in_default-clause-looks g c).After-read_words there
+pub returns-in_default-clause-moments : goal.returns-in_default-clause-moments
+returns-in_default-clause-moments g c = λ there. moments g (goal.at.returns-in_default-clause-moments g c).After-read_run there
 
 pub loop-at-preserved : goal.loop-at-preserved
 loop-at-preserved g c =
-    let i = c.loop-at.number in
+    let device = g.D.Disk.device in
     let inv = c.loop-at.invariant in
-    let place = get_or c.args.places.now i no_place in
-    let n = c.min.result - c.loop-at.at in
-    let here : HasEntry c.args.places.now i c.loop-at.at = inv.place.next c.loop-at-test.true in
-    let next = next_entries c.args.places.now i here.within in
-    let m_is : c.min.result ≡ min c.args.b (entries_at (take (i + 1) c.args.places.now)) = omega (arith, next) in
-    let upto : c.loop-at.at + (c.min.result - c.loop-at.at) ≡ min c.args.b (entries_at (take (i + 1) c.args.places.now)) = omega (arith, m_is, here.ends) in
-    let adds : AddsWords (g.D.Disk.device.contents c.loop-at.disk) (place_of_word g.D.Disk.device c.args.places.now i c.loop-at.at) n
-    c.loop-at.out.items c.read_words.new.out.items =
-    subst (λ (k : ℕ). AddsWords (g.D.Disk.device.contents c.loop-at.disk) (place.gate + WORDS_AT + 8 * (c.loop-at.at - k)) n
-    c.loop-at.out.items c.read_words.new.out.items) c.entries_before-start.ensures c.in-Ok.ensures.read in
+    let places = c.args.places.now in
+    let run = c.run_from-run.result in
+    let runs = c.run_from-run.ensures in
+    let old = c.args.out.now.items in
+    let mid = c.loop-at.out.items in
+    let new = c.read_run.new.out.items in
+    let adds = c.in-Ok.ensures.added in
+    let contents = device.contents c.args.disk.now in
+    let Reads : ℕ → ℕ → List Edge → List Edge → List ℕ → Type 0 =
+    λ a b before after file. (log : List Edge) → HasWords places file log → AddsRange log a b before after in
     record {
-      place = subst (λ (m : ℕ). IsAt c.args.places.now (i + 1) c.args.a m c.args.b) (sym upto)
-          (read_on c.args.places.now i c.args.a c.loop-at.at c.args.b c.requires.in_row c.requires.within inv.place c.loop-at-test.true);
-      words = c.read_words.ensures.words ∙ inv.words;
-      room = omega (arith, inv.room, c.read_words.ensures.room, ap length adds.added, length-append c.loop-at.out.items adds.more, adds.so_many);
-      read = read_more g.D.Disk.device c.args.a c.loop-at.at n c.args.out.now.items c.loop-at.out.items c.read_words.new.out.items adds.more
-          inv.place.from inv.read adds.added adds.so_many;
-      looks = λ there. looked g (goal.at.loop-at-preserved g c).After-read_words there;
-      shown = λ v front log is.
-          let so_far = inv.looks (log_is_there g.D.Disk.device _ log is) in
-          range_on g.D.Disk.device _ log is i c.args.a c.loop-at.at n c.args.out.now.items c.loop-at.out.items c.read_words.new.out.items
-          (g.D.Disk.device.contents c.loop-at.disk)
-          (record { below = here.within; from = inv.place.from; begins = here.begins; ends = omega (arith, upto, here.ends) })
-          so_far.looks.contents (inv.shown v front log is) adds;
-      faults = omega (arith, inv.faults, c.read_words.ensures.cause.later);
+      place = record {
+        from = omega (arith, inv.place.from, runs.from, runs.is_run.some);
+        upto = omega (arith, runs.upto);
+        next = λ left. next_has places run.last run.upto c.args.b c.requires.blocks.in_row c.requires.within runs.upto left;
+      };
+      words = omega (arith, inv.words, c.read_run.ensures.words);
+      room = omega (arith, inv.room, c.read_run.ensures.room, adds.so_many, runs.from, runs.is_run.some, runs.upto);
+      added = counts_join (c.loop-at.at - c.args.a) (run.upto - run.from) (run.upto - c.args.a) old mid new inv.added adds
+          (omega (arith, inv.place.from, runs.from, runs.is_run.some));
+      looks = looks_more device c.args.disk.now c.loop-at.disk c.read_run.new.disk inv.looks c.read_run.ensures.looks;
+      moments = λ there. moments g (goal.at.loop-at-preserved g c).After-read_run there;
+      shown = if_both contents (Reads c.args.a c.loop-at.at old mid) (Reads run.from run.upto mid new) (Reads c.args.a run.upto old new)
+          (λ file first second log has. ranges_join log c.args.a c.loop-at.at run.upto old mid new inv.place.from
+          (omega (arith, runs.from, runs.is_run.some)) (first log has)
+          (subst (λ (k : ℕ). AddsRange log k run.upto mid new) runs.from (second log has)))
+          inv.shown (subst (λ (o : Option (List ℕ)). IfSome o (Reads run.from run.upto mid new)) inv.looks.contents c.in-Ok.ensures.shown);
+      faults = omega (arith, inv.faults, c.read_run.ensures.cause.later);
     }
-
-pub returns-clause-shown : goal.returns-clause-shown
-returns-clause-shown g c = λ v front log is.
-    subst (λ (k : ℕ). IfSome (g.D.Disk.device.contents c.args.disk.now) (λ bytes. AddsRange log c.args.a k c.args.out.now.items c.loop-at.out.items))
-    (omega (arith, c.loop-at.invariant.place.upto)) (c.loop-at.invariant.shown v front log is)

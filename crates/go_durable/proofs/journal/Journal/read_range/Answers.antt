@@ -1,9 +1,7 @@
 -- What reading a range leads to.
-use Rattle.std.proofs.Common.{subst, sym, ◌≤◌}
-use Rattle.go_durable.specs.Journal.{journal_front, KeepsOn}
-use Rattle.go_durable.specs.JournalRanging.{IsRanged}
+use Rattle.std.proofs.Common.{subst, ◌≤◌}
+use Rattle.go_durable.specs.Journal.{journal_front}
 use Rattle.go_durable.specs.declared.journal.Journal.{Journal}
-use Rattle.go_durable.specs.declared.journal.Journal.TheVariants.{Sound, Spent}
 use Rattle.go_durable.proofs.JournalRanges.{keeps_read, is_ranged, read_fault}
 use Rattle.go_durable.proofs.journal.Journal.read_range.Goals as goal
 

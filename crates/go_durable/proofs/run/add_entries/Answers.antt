@@ -1,7 +1,7 @@
 -- The loop of `add_entries`: a word more, and the end.
 use Rattle.std.proofs.Common.{◌≡◌, ◌-◌, ◌∷◌, [], ◌++◌, rules, arith}
 use Rattle.go_durable.proofs.Ranges.{entry_more, entries_done}
-use Rattle.go_durable.proofs.range.add_entries.Goals as goal
+use Rattle.go_durable.proofs.run.add_entries.Goals as goal
 
 pub loop-preserved : goal.loop-preserved
 loop-preserved c =

@@ -1,7 +1,7 @@
 -- The loop of `add_entries`.
 use Rattle.std.proofs.Common.{◌≡◌, ◌+◌, ◌-◌, ◌*◌, ◌≤◌, ◌++◌, length, vec_len, vec_capacity}
 use Rattle.go_durable.specs.Ranging.{entries_in}
-use Rattle.go_durable.proofs.range.add_entries.Given as goal
+use Rattle.go_durable.proofs.run.add_entries.Given as goal
 
 -- what was added so far, and what the rest adds
 abbrev pub invariant-loop : goal.invariant-loop
