@@ -72,47 +72,50 @@ append_spends device edges old new gate rules gate_is moments stays = record {
       (stays is.bytes is.shut (gate_is ∙ is.gate_is));
 }
 
+-- the numbers of a log go on by those of a block of these entries, whose bytes behind its gate are these
+pub record IsBlockOn {D : Type 0} (edges : List Edge) (old new : LogState D) (body : List ℕ) : Type 0 where
+  pub count : IsCount (length edges)
+  pub within : All (IsWithin old.vertices) edges
+  pub body_is : body ≡ body_of edges ++ CLOSED ∷ []
+  pub vertices_are : new.vertices ≡ old.vertices
+  pub front_is : new.front ≡ old.front + length edges
+  pub gate_is : new.gate ≡ old.gate + length body
+  pub places_are : new.places ≡ old.places ++ record { gate = old.gate; count = length edges } ∷ []
+
 -- a log that goes on by a block
-pub append_stands : {D : Type 0} (device : Device D) (log edges : List Edge) (old new : LogState D) (body : List ℕ) →
-    IsCount (length edges) → All (IsWithin old.vertices) edges → body ≡ body_of edges ++ CLOSED ∷ [] →
-    new.vertices ≡ old.vertices → new.front ≡ old.front + length edges → new.gate ≡ old.gate + length body
-    → new.places ≡ old.places ++ record { gate = old.gate; count = length edges } ∷ [] →
+append_stands : {D : Type 0} (device : Device D) (log edges : List Edge) (old new : LogState D) (body : List ℕ) → IsBlockOn edges old new body →
     (is : IsLog device old log) → IsOpenedOn device is.bytes (body_of edges) old.disk new.disk → IsLog device new (log ++ edges)
-append_stands device log edges old new body count within body_is vertices_are front_is gate_is places_are is opened =
+append_stands device log edges old new body on is opened =
     let b : Block = record { gate = OPEN; entries = edges } in
-    let block : IsBlock old.vertices b = record { is_open = record { open_gate = omega arith }; count = count; within = within } in
+    let block : IsBlock old.vertices b = record { is_open = record { open_gate = omega arith }; count = on.count; within = on.within } in
     let at_gate : old.gate ≡ FIRST_GATE + length (flat_map block_bytes is.blocks) = is.gate_is ∙ front_length old.vertices is.blocks is.bytes is.has_blocks in
     record {
       blocks = is.blocks ++ b ∷ [];
       bytes = is.bytes ++ OPEN ∷ body_of edges;
-      has_blocks = subst (λ (v : ℕ). HasBlocks v (is.blocks ++ b ∷ []) (is.bytes ++ OPEN ∷ body_of edges)) (sym vertices_are)
+      has_blocks = subst (λ (v : ℕ). HasBlocks v (is.blocks ++ b ∷ []) (is.bytes ++ OPEN ∷ body_of edges)) (sym on.vertices_are)
           (HasBlocks-more old.vertices is.blocks is.bytes b is.has_blocks block);
       entries = ap (λ (l : List Edge). l ++ edges) is.entries ∙ sym (entries_of-more is.blocks b);
-      so_many = front_is ∙ omega (arith, is.so_many, length-append log edges);
-      gate_is = gate_is
-          ∙ omega (arith, is.gate_is, ap length body_is, length-append (body_of edges) (CLOSED ∷ []), length-append is.bytes (OPEN ∷ body_of edges));
-      places_are = places_are ∙ ap (λ (l : List BlockPlace). l ++ record { gate = old.gate; count = length edges } ∷ []) is.places_are
+      so_many = on.front_is ∙ omega (arith, is.so_many, length-append log edges);
+      gate_is = on.gate_is
+          ∙ omega (arith, is.gate_is, ap length on.body_is, length-append (body_of edges) (CLOSED ∷ []), length-append is.bytes (OPEN ∷ body_of edges));
+      places_are = on.places_are ∙ ap (λ (l : List BlockPlace). l ++ record { gate = old.gate; count = length edges } ∷ []) is.places_are
           ∙ ap (λ (g : ℕ). places_of FIRST_GATE is.blocks ++ record { gate = g; count = length edges } ∷ []) at_gate
           ∙ sym (places_of-more FIRST_GATE is.blocks b);
       shut = opened.shut;
     }
 
 -- an append that succeeded
-pub append_grows : {D : Type 0} (device : Device D) (edges : List Edge) (old new : LogState D) (body : List ℕ) (gate : ℕ) →
-    IsCount (length edges) → All (IsWithin old.vertices) edges → body ≡ body_of edges ++ CLOSED ∷ [] → gate ≡ old.gate →
-    new.vertices ≡ old.vertices → new.front ≡ old.front + length edges → new.gate ≡ old.gate + length body
-    → new.places ≡ old.places ++ record { gate = old.gate; count = length edges } ∷ [] →
+pub append_grows : {D : Type 0} (device : Device D) (edges : List Edge) (old new : LogState D) (body : List ℕ) (gate : ℕ) → IsBlockOn edges old new body →
+    gate ≡ old.gate →
     ((front inner : List ℕ) → IsShut device front old.disk → gate ≡ length front → body ≡ inner ++ CLOSED ∷ []
     → IsOpenedOn device front inner old.disk new.disk) →
     IsLongerBy device edges old new
-append_grows device edges old new body gate count within body_is same_gate vertices_are front_is gate_is places_are opens = record {
-  stands = λ log is.
-      append_stands device log edges old new body count within body_is vertices_are front_is gate_is places_are is
-      (opens is.bytes (body_of edges) is.shut (same_gate ∙ is.gate_is) body_is);
-  vertices_are = vertices_are;
-  so_many = front_is;
-  one_block = places_are;
-  told = λ log is. let opened = opens is.bytes (body_of edges) is.shut (same_gate ∙ is.gate_is) body_is in opened.told;
+append_grows device edges old new body gate on same_gate opens = record {
+  stands = λ log is. append_stands device log edges old new body on is (opens is.bytes (body_of edges) is.shut (same_gate ∙ is.gate_is) on.body_is);
+  vertices_are = on.vertices_are;
+  so_many = on.front_is;
+  one_block = on.places_are;
+  told = λ log is. let opened = opens is.bytes (body_of edges) is.shut (same_gate ∙ is.gate_is) on.body_is in opened.told;
 }
 
 -- a block more, behind the others

@@ -11,7 +11,7 @@ use Rattle.go_durable.specs.Journal.{Keeps, KeepsOn}
 use Rattle.go_durable.specs.JournalRanging.{IsRanged}
 use Rattle.go_durable.specs.LogState.{LogState}
 use Rattle.go_durable.specs.Moments.{LeavesOnly}
-use Rattle.go_durable.specs.Ranging.{AddsRange, HasReadRange, IsReadSpent, ReadsRange}
+use Rattle.go_durable.specs.Ranging.{Asked, AddsRange, HasReadRange, IsReadSpent, ReadsRange}
 use Rattle.go_durable.specs.Recovery.{IsBeforeOrAfter, RecoversPart}
 use Rattle.go_durable.specs.Standing.{IsLog}
 use Rattle.go_durable.specs.declared.fault.LogFault.{LogFault}
@@ -47,10 +47,10 @@ module _ {D : Type 0} (device : Device D) where
       (inl (subst (λ (n : ℕ). File n (take old.front log) image) keeps.has.vertices_are is)))) leaves)
 
   -- entries were read, and the journal goes on
-  pub keeps_read : (a b : ℕ) (old new : LogState D) (before after : List Edge) → HasReadRange device a b old new before after →
+  pub keeps_read : (asked : Asked) (old new : LogState D) → HasReadRange device asked old new →
       ((log : List Edge) → IsLog device old log → LeavesOnly device old.disk new.disk (File old.vertices log))
       → device.faults old.disk ≤ device.faults new.disk → KeepsOn device [] (Sound old) (Sound new)
-  keeps_read a b old new before after read moments count =
+  keeps_read asked old new read moments count =
       let front : new.front ≡ old.front = ap (λ (s : LogState D). s.front) read.same in
       record {
         keeps = λ v first log opened keeps next.
@@ -72,15 +72,16 @@ module _ {D : Type 0} (device : Device D) where
       }
 
   -- and they are the log's
-  pub is_ranged : (a b : ℕ) (old new : LogState D) (before after : List Edge) → a ≤ b → b ≤ old.front → HasReadRange device a b old new before after →
-      IsRanged device a b (Sound old) (Sound new) before after
-  is_ranged a b old new before after order within read = record {
+  pub is_ranged : (asked : Asked) (old new : LogState D) → asked.from ≤ asked.upto → asked.upto ≤ old.front → HasReadRange device asked old new →
+      IsRanged device asked (Sound old) (Sound new)
+  is_ranged asked old new order within read = record {
     sound = refl;
     blocks = ap (λ (s : LogState D). length s.places) read.same;
     so_many = read.so_many;
     front_stays = read.front_stays;
     shown = λ v first log opened keeps.
-        told_since (device.contents opened) (device.contents old.disk) (range_within old.front a b log before after order within) keeps.has.told
+        told_since (device.contents opened) (device.contents old.disk) (range_within old.front asked.from asked.upto log asked.before asked.after order within)
+        keeps.has.told
         (read.shown (take old.front log) keeps.has.stands);
   }
 
@@ -93,12 +94,12 @@ module _ {D : Type 0} (device : Device D) where
       (λ log is. weaker device old.disk disk (File old.vertices log) (IsBeforeOrAfter old.vertices log []) (λ image file. inl file) (moments log is)) count
 
   -- the same, where a fault tells of the disk
-  pub read_fault : (a b : ℕ) (old : LogState D) (before after : List Edge) (fault : LogFault D) (disk : D) → fault ≡ faulty.Disk disk →
-      ReadsRange device a b old before after (Err fault) →
+  pub read_fault : (asked : Asked) (old : LogState D) (fault : LogFault D) (disk : D) → fault ≡ faulty.Disk disk →
+      ReadsRange device asked old (Err fault) →
       ((log : List Edge) → IsLog device old log → LeavesOnly device old.disk (disk_after (Err fault)) (File old.vertices log))
       → device.faults old.disk ≤ device.faults (disk_after (Err fault)) → KeepsOn device [] (Sound old) (Spent disk old.front)
-  read_fault a b old before after fault disk is answer moments count =
-      let all = subst (λ (f : LogFault D). ReadsRange device a b old before after (Err f)
+  read_fault asked old fault disk is answer moments count =
+      let all = subst (λ (f : LogFault D). ReadsRange device asked old (Err f)
       × ((log : List Edge) → IsLog device old log → LeavesOnly device old.disk (disk_after (Err f)) (File old.vertices log))
       × (device.faults old.disk ≤ device.faults (disk_after (Err f)))) is (answer, moments, count) in
       read_spent old disk all.0.0 all.0.1 all.1 all.2

@@ -13,6 +13,13 @@ use Rattle.go_durable.specs.Appending.{HasImage}
 use Rattle.go_durable.specs.LogState.{LogState, entries_at}
 use Rattle.go_durable.specs.Standing.{IsLog}
 
+-- a range that is asked for, from one place in the log up to another, and the list that it is added to: before it was read, and after
+pub record Asked : Type 0 where
+  pub from : ℕ
+  pub upto : ℕ
+  pub before : List Edge
+  pub after : List Edge
+
 -- the entries of so many words in a row
 abbrev pub entries_in : ℕ → List ℕ → List Edge
 entries_in zero bytes = []
@@ -30,13 +37,14 @@ pub record AddsRange (log : List Edge) (a b : ℕ) (old new : List Edge) : Type 
 
 -- the log was read: it is the same on its disk, of which a read gives what it gave, so many entries were added, and they are the log's where the disk
 -- tells
-pub record HasReadRange {D : Type 0} (device : Device D) (a b : ℕ) (old new : LogState D) (before after : List Edge) : Type 0 where
+pub record HasReadRange {D : Type 0} (device : Device D) (asked : Asked) (old new : LogState D) : Type 0 where
   pub same : new ≡ record old { disk = new.disk }
   pub stands : (log : List Edge) → IsLog device old log → IsLog device new log
   pub contents : (log : List Edge) → IsLog device old log → device.contents new.disk ≡ device.contents old.disk
-  pub so_many : length after ≡ length before + (b - a)
-  pub front_stays : take (length before) after ≡ before
-  pub shown : (log : List Edge) → IsLog device old log → IfSome (device.contents old.disk) (λ bytes. AddsRange log a b before after)
+  pub so_many : length asked.after ≡ length asked.before + (asked.upto - asked.from)
+  pub front_stays : take (length asked.before) asked.after ≡ asked.before
+  pub shown : (log : List Edge) → IsLog device old log →
+      IfSome (device.contents old.disk) (λ bytes. AddsRange log asked.from asked.upto asked.before asked.after)
 
 -- a log that was read was spent by a fault of its disk: each image is a file of it, and there is one, where the disk tells
 pub record IsReadSpent {D : Type 0} (device : Device D) (old : LogState D) (disk : D) : Type 0 where
@@ -44,7 +52,8 @@ pub record IsReadSpent {D : Type 0} (device : Device D) (old : LogState D) (disk
   pub one : (log : List Edge) → IsLog device old log → IfSome (device.contents old.disk) (λ bytes. HasImage (device.images disk) (File old.vertices log))
 
 -- what is answered: the same log, a spent one where the count of faults rose, or for want of memory the log as it was
-abbrev pub ReadsRange : {D : Type 0} → Device D → ℕ → ℕ → LogState D → List Edge → List Edge → Result (LogState D) (LogFault D) → Type 0
-ReadsRange device a b old before after (Ok new) = HasReadRange device a b old new before after
-ReadsRange device a b old before after (Err (Disk disk)) = Rose (device.faults old.disk) (device.faults disk) × IsReadSpent device old disk × (after ≡ before)
-ReadsRange device a b old before after (Err (Memory log)) = (log ≡ old) × (after ≡ before)
+abbrev pub ReadsRange : {D : Type 0} → Device D → Asked → LogState D → Result (LogState D) (LogFault D) → Type 0
+ReadsRange device asked old (Ok new) = HasReadRange device asked old new
+ReadsRange device asked old (Err (Disk disk)) = Rose (device.faults old.disk) (device.faults disk) × IsReadSpent device old disk
+    × (asked.after ≡ asked.before)
+ReadsRange device asked old (Err (Memory log)) = (log ≡ old) × (asked.after ≡ asked.before)

@@ -39,7 +39,7 @@ impl<D: Disk> DurableLog<D> {
         requires order { a ≤ b }
         requires within { b ≤ self.front }
 
-        ensures answer { ReadsRange D.device a b self out.old.items out.new.items result }
+        ensures answer { ReadsRange D.device (record { from = a; upto = b; before = out.old.items; after = out.new.items }) self result }
 
         // What a crash at each moment of the call may leave.
         ensures moments { (log : List Edge) → IsLog D.device self log →

@@ -25,7 +25,8 @@ impl<D: Disk> Journal<D> {
         requires within { b ≤ journal_front self }
         ensures keeps { KeepsOn D.device [] self result.journal }
         ensures front { journal_front result.journal ≡ journal_front self }
-        ensures read { HasRanged D.device a b self result.journal out.old.items out.new.items result.stop }
+        ensures read { HasRanged D.device (record { from = a; upto = b; before = out.old.items; after = out.new.items }) self result.journal
+            result.stop }
     {
         let log = match self {
             Journal::Sound { log } => log,

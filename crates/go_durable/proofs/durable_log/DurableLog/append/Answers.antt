@@ -46,11 +46,19 @@ returns-clause-moments g c = moments g (goal.at.returns-clause-moments g c).Afte
 pub returns-clause-answer : goal.returns-clause-answer
 returns-clause-answer g c =
     append_grows g.D.Disk.device c.args.edges.now c.args.self _ c.deref.result.now c.self.inside.gate
-    c.requires.count c.requires.within (c.deref.ensures.value ∙ c.in-Ok.ensures.body) (ap (λ k. k.gate) c.self.view_is)
-    (ap (λ k. k.vertices) c.self.view_is) (ap (λ k. k.front + length c.args.edges.now) c.self.view_is) (ap (λ k. k.gate + c.len.result) c.self.view_is
-    ∙ ap (λ (n : ℕ). c.args.self.gate + n) (c.len.ensures ∙ sym c.deref.ensures.len))
-    (c.add_place.ensures ∙ ap (λ (p : List BlockPlace). p ++ record { gate = c.self.inside.gate; count = length c.args.edges.now } ∷ []) c.in-Ok.ensures.places
-    ∙ ap (λ k. k.places ++ record { gate = k.gate; count = length c.args.edges.now } ∷ []) c.self.view_is)
+    (record {
+      count = c.requires.count;
+      within = c.requires.within;
+      body_is = c.deref.ensures.value ∙ c.in-Ok.ensures.body;
+      vertices_are = ap (λ k. k.vertices) c.self.view_is;
+      front_is = ap (λ k. k.front + length c.args.edges.now) c.self.view_is;
+      gate_is = ap (λ k. k.gate + c.len.result) c.self.view_is
+          ∙ ap (λ (n : ℕ). c.args.self.gate + n) (c.len.ensures ∙ sym c.deref.ensures.len);
+      places_are = c.add_place.ensures
+          ∙ ap (λ (p : List BlockPlace). p ++ record { gate = c.self.inside.gate; count = length c.args.edges.now } ∷ []) c.in-Ok.ensures.places
+          ∙ ap (λ k. k.places ++ record { gate = k.gate; count = length c.args.edges.now } ∷ []) c.self.view_is;
+    })
+    (ap (λ k. k.gate) c.self.view_is)
     (subst (λ (d : g.row.D.Denot). (front inner : List ℕ) → IsShut g.D.Disk.device front d → c.self.inside.gate ≡ length front
     → c.deref.result.now ≡ inner ++ CLOSED ∷ [] →
     IsOpenedOn g.D.Disk.device front inner d c.open_behind.new.disk) (ap (λ k. k.disk) c.self.view_is) c.in-Ok-open_behind.ensures.done)
