@@ -42,8 +42,8 @@ told_so (Some bytes) has is = has
 
 -- entries that were read of the log file
 pub adds_log : {D : Type 0} (device : Device D) (store : PlainState D) (a b : ℕ) (journal new : Journal D) (before after : List Edge) → a ≤ b →
-    Keeps device store.origin.vertices store.origin.first store.log store.origin.disk journal → IsRanged device a b journal new before after →
-    AddsLog device store a b before after
+    Keeps device store.origin.vertices store.origin.first store.log store.origin.disk journal →
+    IsRanged device (record { from = a; upto = b; before = before; after = after }) journal new → AddsLog device store a b before after
 adds_log device store a b journal new before after order keeps is =
     let more : List Edge = drop (length before) after in
     let added : after ≡ before ++ more =

@@ -58,8 +58,9 @@ returns-clause-adds g c =
     c.self.invariant.1.keeps in
     elim c.match-stop.branch [
       | in-None-stop w ↦
-          let ranged = subst (λ (o : Option Stop). HasRanged g.D.Disk.device c.args.from c.args.to c.in-Some.journal c.read_range-journal.result.journal
-          c.args.out.now.items c.read_range-journal.new.out.items o) w.in-None-stop.is c.read_range-journal.ensures.read in
+          let ranged = subst (λ (o : Option Stop). HasRanged g.D.Disk.device
+          (record { from = c.args.from; upto = c.args.to; before = c.args.out.now.items; after = c.read_range-journal.new.out.items })
+          c.in-Some.journal c.read_range-journal.result.journal o) w.in-None-stop.is c.read_range-journal.ensures.read in
           rw w.result-is (adds_log g.D.Disk.device _ c.args.from c.args.to c.in-Some.journal c.read_range-journal.result.journal c.args.out.now.items
           c.read_range-journal.new.out.items c.requires.order keeps ranged)
       | in-Some-stop w ↦ rw w.result-is tt
