@@ -1,8 +1,8 @@
 -- How reading a range goes on: entries that were added, and a disk that was only looked at.
-use Rattle.std.proofs.Common.{◌≡◌, ℕ, ◌+◌, ◌-◌, ◌<◌, ◌≤◌, List, [], ◌∷◌, ◌++◌, length, get_or, take, drop, refl, sym, ap}
-use Rattle.std.proofs.Common.{subst, ◌∙◌, append_assoc, append-nil, length-append, arith}
+use Rattle.std.proofs.Common.{◌≡◌, ℕ, ◌+◌, ◌-◌, ◌<◌, ◌≤◌, List, ◌∷◌, ◌++◌, length, get_or, take, drop, refl, sym, ap}
+use Rattle.std.proofs.Common.{subst, ◌∙◌, append_assoc, length-append, arith}
 use Rattle.std.specs.Prelude.{All, IfSome, Option, None, Some}
-use Rattle.std.proofs.lemmas.List.{take_all, take_at, take_more, take-take, length-take, length-drop}
+use Rattle.std.proofs.lemmas.List.{take_at, take_more, take-take, length-take, length-drop}
 use Rattle.std.proofs.lemmas.Option.{slice_get-get_or}
 use Rattle.std.proofs.lemmas.List.Elements.{All-take, All-drop}
 use Rattle.std.proofs.lemmas.List.Sums.{sum_by_push, sum_by-take-drop}
@@ -29,19 +29,6 @@ use Rattle.go_durable.proofs.Standing.{log_within}
 abbrev pub no_place : BlockPlace
 no_place = record { gate = 0; count = 0 }
 
--- none of a list
-none_of : {X : Type 0} (n : ℕ) (xs : List X) → n ≡ 0 → take n xs ≡ []
-none_of n [] none = rw none refl
-none_of n (x ∷ xs) none = rw none refl
-
--- before the first place there is no entry
-pub none_at : (places : List BlockPlace) → 0 ≡ entries_at (take 0 places)
-none_at places = ap entries_at (sym (none_of 0 places refl))
-
--- no entry was added yet
-pub none_added : (log : List Edge) (a : ℕ) (old : List Edge) → AddsRange log a a old old
-none_added log a old = record { added = sym (ap (λ (l : List Edge). old ++ l) (none_of (a - a) (drop a log) (omega arith)) ∙ append-nil old) }
-
 -- a range goes on by the next
 pub ranges_join : (log : List Edge) (a at b : ℕ) (before mid new : List Edge) → a ≤ at → at ≤ b → AddsRange log a at before mid → AddsRange log at b mid new
     → AddsRange log a b before new
@@ -67,10 +54,6 @@ counts_join m n k before mid new first second all = record {
       ∙ first.front_stays;
 }
 
--- no entries
-pub count_none : (n : ℕ) (old : List Edge) → n ≡ 0 → AddsCount n old old
-count_none n old none = record { so_many = omega (arith, none); front_stays = take_all (length old) old (omega arith) }
-
 -- one place more
 pub next_entries : (places : List BlockPlace) (i : ℕ) → i < length places
     → entries_at (take (i + 1) places) ≡ entries_at (take i places) + (get_or places i no_place).count
@@ -88,10 +71,6 @@ if_both None P Q R gives p q = tt
 if_both (Some bytes) P Q R gives p q = gives bytes p q
 
 module _ {D : Type 0} (device : Device D) where
-  -- no call was made
-  pub looks_none : (disk : D) → Looks device disk disk
-  looks_none disk = record { contents = refl; base = refl; images = λ image is. is; syncs = refl }
-
   -- the disk was looked at, and then again
   pub looks_more : (old mid new : D) → Looks device old mid → Looks device mid new → Looks device old new
   looks_more old mid new first second = record {
