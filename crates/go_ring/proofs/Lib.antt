@@ -2,6 +2,7 @@
 pub mod Copying
 pub mod Ends
 pub mod Fills
+pub mod Unseen
 pub mod Turns
 pub mod Parts
 pub mod Runs

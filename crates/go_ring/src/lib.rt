@@ -10,6 +10,7 @@ mod claim;
 mod copied;
 mod copies;
 mod opening;
+mod ordered;
 mod ring;
 mod room;
 mod stores;

@@ -1,10 +1,11 @@
 // Words are read in their turn, one after another.
 ghost use Rattle.std.specs.Prelude.{◌≡◌, ◌+◌, ◌≤◌, length, take, drop};
 ghost use Rattle.go_rule.specs.Steps.{IsAt, CanTakeNext};
-ghost use Rattle.go_ring.specs.Takes.{TakeIs};
+ghost use Rattle.go_ring.specs.Takes.{TakeIs, IsLongest};
 
+use crate::ordered::load_in_turn;
 use go_core::Part;
-use go_rule::{Ring, Seat, load_ordered};
+use go_rule::{Ring, Seat};
 use go_word::{Edge, decode, matched};
 
 // Reads words from a position on, up to the first that isn't matched or to the end of the room, and puts their entries there.
@@ -20,11 +21,12 @@ pub(crate) fn take_run<T: Part>(
     ensures few { result ≤ length out.old }
     ensures rest { (length out.new ≡ length out.old) × (drop result out.new ≡ drop result out.old) }
     ensures takes { TakeIs from (length out.old) (take result out.new) seat.old.me seat.new.me }
+    ensures longest { IsLongest ring.now.slots (length out.old) seat.old.me.0.core.seen from result }
 {
     let mut count = 0;
     while count < out.len() {
         let at = from + count as u64;
-        let word = load_ordered(ring, seat, at);
+        let word = load_in_turn(ring, seat, at);
         if !matched(word, at, ring.slots) {
             return count;
         }

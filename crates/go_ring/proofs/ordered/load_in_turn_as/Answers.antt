@@ -1,0 +1,32 @@
+-- `load_in_turn_as`: the step keeps the rule, and tells of the position and the slots that were picked.
+use Rattle.std.proofs.Common.{◌≡◌, ℕ, sym, ◌∙◌, subst}
+use mathlib.Core.Option.{none}
+use Rattle.atomic_table.specs.Table.{step, Allows}
+use Rattle.go_core.specs.Frame.{place}
+use Rattle.go_rule.specs.Meaning.{meaning}
+use Rattle.go_rule.specs.Views.{frame_of}
+use Rattle.go_rule.specs.Rule.{IsRuled}
+use Rattle.go_ring.specs.Takes.{ReadsInTurn}
+use Rattle.go_ring.proofs.Unseen.{in_turn_allowed}
+use Rattle.go_ring.proofs.ordered.load_in_turn_as.Goals as goal
+
+pub load-requires : goal.load-requires
+load-requires g c =
+    let m = meaning g.T.Part.state_of g.T.Part.stands_for g.T.Part.fits g.T.Part.keeps g.T.Part.is_spent g.T.Part.mark_of g.T.Part.recovers in
+    let ring = c.args.ring.now in
+    let t = ring.table.shared in
+    let seat = c.args.seat.now in
+    let at = c.args.at in
+    let say = step t.table_id.slots (place (frame_of t.key) at) 0 0 none in
+    let kept = in_turn_allowed m (record { stands_on = g.met.T.Part.stands_on; recovers_on = g.met.T.Part.recovers_on }) t.key t.table_id.slots seat.id seat.me
+    c.requires.at_ring.1 say at c.requires.can
+    in
+    let same : t.key.layout.ring ≡ g.E.Place.slots = sym ring.slots_is ∙ c.requires.picked.1 in (
+      c.requires.at_ring.0,
+      c.place-place.ensures.within,
+      subst (λ (n : ℕ). Allows (IsRuled m t.key) t.table_id.slots seat.id seat.me c.place-place.result (λ k. k) (ReadsInTurn n g.E.Place.at say seat.me)) same
+          (subst (λ (p : ℕ). Allows (IsRuled m t.key) t.table_id.slots seat.id seat.me c.place-place.result (λ k. k)
+          (ReadsInTurn t.key.layout.ring p say seat.me)) c.requires.picked.0
+          (subst (λ (j : ℕ). Allows (IsRuled m t.key) t.table_id.slots seat.id seat.me j (λ k. k) (ReadsInTurn t.key.layout.ring at say seat.me))
+          (sym c.place-place.ensures.is) kept)),
+    )
