@@ -168,6 +168,12 @@ module _ {P : Type 0} where
           passed = omega arith;
         })
 
+    -- by words that are read ahead, and a load of the archived front after them
+    pub goes_to_front : (state_of : P → PartState) (f : Frame) {step : Step S} (me now : Me S (SeatView P)) (n : ℕ) (c d : SeatView P) → GoesOn c d
+        → ReadsOnly d me.0 → LoadsArchived state_of f step me n now → GoesOn c now.0
+    goes_to_front state_of f me now n c d on only l =
+        goes_then c me.0 now.0 (goes_then c d me.0 on (goes_reading d me.0 only)) (goes_archived state_of f me now n l)
+
     -- one more word was read ahead
     pub only_next : (slots p word : ℕ) (d : SeatView P) (me now : Me S (SeatView P)) → ReadsOnly d me.0 → ReadAhead slots p me word now → ReadsOnly d now.0
     only_next slots p word d me now only l =

@@ -60,10 +60,10 @@ module _ {P : Type 0} where
   -- why it stopped
   pub stops_so : (slots from : ℕ) (d now : SeatView P) (copied : Copied) (stop : CopyStop) → StopsFor copied.end now.core.head from (from + slots) stop
       → min d.core.archived d.core.durable ≤ from → from ≤ min copied.archived copied.durable
-      → (copied.end < from + slots → EndsAt slots from now copied.end) → StopIs slots d now copied stop
+      → (copied.end < from + slots → EndsAt slots from now copied.end) → StopIs slots from d now copied stop
   stops_so slots from d now copied (Window first) stops low within ended =
       let is : first ≡ from = stops.0 in
-      let over = stops.1 in (omega arith, omega arith, omega arith)
+      let over = stops.1 in (is, omega arith, omega arith, omega arith)
   stops_so slots from d now copied (Head long) stops low within ended = (stops.0 ∙ sym stops.1, sym stops.1)
   stops_so slots from d now copied (Unwritten position) stops low within ended =
       let below = stops.2 in

@@ -1,6 +1,7 @@
 -- What a copy of the ring's words tells its seat.
 use Rattle.std.specs.Prelude.{◌≡◌, ◌⊎◌, ℕ, ◌+◌, ◌%◌, ◌<◌, ◌≤◌, min, true, false, List, [], length, take, All, Contains, slice_index}
-use Rattle.atomic_table.specs.Table.{Me}
+use Rattle.atomic_table.specs.Table.{Me, step}
+use mathlib.Core.Option.{none}
 use Rattle.go_word.specs.Word.{is_matched}
 use Rattle.go_core.specs.declared.entry.Load.{Load}
 use Rattle.go_core.specs.declared.part.PartState.{PartState}
@@ -9,7 +10,7 @@ use Rattle.go_core.specs.Parts.{IsShardPlace}
 use Rattle.go_rule.specs.declared.view.Note.{Note}
 use Rattle.go_rule.specs.declared.view.PlacedPin.{PlacedPin}
 use Rattle.go_rule.specs.declared.view.SeatView.{SeatView}
-use Rattle.go_rule.specs.Steps.{IsWordOf}
+use Rattle.go_rule.specs.Steps.{IsWordOf, LoadsHead, LoadsArchived, LoadsDurable}
 use Rattle.go_ring.specs.declared.copied.Copied.{Copied}
 use Rattle.go_ring.specs.declared.copied.CopyStop.{CopyStop}
 use Rattle.go_ring.specs.declared.copied.CopyStop.TheVariants.{Head, Unwritten, Window}
@@ -44,12 +45,13 @@ module _ {P : Type 0} where
     pub seen : d.core.seen ≤ e.core.seen
     pub passed : d.told.passed ≤ e.told.passed
 
-  -- why a copy ended there: at the length, at a word that wasn't matched, or a lap past what was released at first
-  abbrev pub StopIs : ℕ → SeatView P → SeatView P → Copied → CopyStop → Type 0
-  StopIs slots d now copied (Head head) = (head ≡ copied.end) × (now.core.head ≡ copied.end)
-  StopIs slots d now copied (Unwritten position) = (position ≡ copied.end) × IsGap slots now.core.loads copied.end × (copied.end < now.core.head)
-  StopIs slots d now copied (Window from) =
-      (from + slots ≤ copied.end) × (min d.core.archived d.core.durable ≤ from) × (from ≤ min copied.archived copied.durable)
+  -- why a copy ended there: at the length, at a word that wasn't matched, or a lap past what was released as it began
+  abbrev pub StopIs : ℕ → ℕ → SeatView P → SeatView P → Copied → CopyStop → Type 0
+  StopIs slots released d now copied (Head head) = (head ≡ copied.end) × (now.core.head ≡ copied.end)
+  StopIs slots released d now copied (Unwritten position) =
+      (position ≡ copied.end) × IsGap slots now.core.loads copied.end × (copied.end < now.core.head)
+  StopIs slots released d now copied (Window from) =
+      (from ≡ released) × (from + slots ≤ copied.end) × (min d.core.archived d.core.durable ≤ from) × (from ≤ min copied.archived copied.durable)
 
   -- the fronts as they were loaded after the words: the archived one is no further than the end, and neither a pin of the seat nor the cut of
   -- a shard in its hand is past it
@@ -69,10 +71,33 @@ module _ {P : Type 0} where
         IsWordOf slots d.about.vertices now.told.seen (record { at = p; word = slice_index buf (p % slots); sure = true })
 
   module _ {S : Type 0} where
+    -- a copy begins by loads of the length, of the archived front right after it, of the length again, and of the durable front
+    pub record Begins (state_of : P → PartState) (f : Frame) (words : ℕ) (me : Me S (SeatView P)) (archived durable : ℕ) (now : Me S (SeatView P)) : Type 0 where
+      pub head : ℕ
+      pub after_head : Me S (SeatView P)
+      pub after_archived : Me S (SeatView P)
+      pub again : ℕ
+      pub after_again : Me S (SeatView P)
+      pub length_is : LoadsHead f (step words 0 0 0 none) me head after_head
+      pub archived_is : LoadsArchived state_of f (step words 1 0 0 none) after_head archived after_archived
+      pub still : LoadsHead f (step words 0 0 0 none) after_archived again after_again
+      pub durable_is : LoadsDurable f (step words 2 0 0 none) after_again durable now
+
+    -- by which so much was released, and from where it went on
+    pub record BeginsAt (state_of : P → PartState) (f : Frame) (words : ℕ) (me now : Me S (SeatView P)) (released : ℕ) : Type 0 where
+      pub archived : ℕ
+      pub durable : ℕ
+      pub begun : Me S (SeatView P)
+      pub begins : Begins state_of f words me archived durable begun
+      pub lesser : released ≡ min archived durable
+      pub on : GoesOn begun.0 now.0
+
     -- the ring's words were copied into a buffer of as many, and both fronts were loaded after them
-    pub record Copies (state_of : P → PartState) (f : Frame) (me now : Me S (SeatView P)) (copied : Copied) (buf : List ℕ) : Type 0 where
+    pub record Copies (state_of : P → PartState) (f : Frame) (words : ℕ) (me now : Me S (SeatView P)) (copied : Copied) (buf : List ℕ) : Type 0 where
+      pub released : ℕ
+      pub begins : BeginsAt state_of f words me now released
       pub on : GoesOn me.0 now.0
       pub hand : now.1 ≡ me.1
       pub fronts : TellsFronts state_of f me.0 now.0 copied
       pub told : TellsWords f.slots me.0 now.0 copied buf
-      pub stop : StopIs f.slots me.0 now.0 copied copied.stop
+      pub stop : StopIs f.slots released me.0 now.0 copied copied.stop

@@ -107,7 +107,7 @@ pub trait RingCalls<T: Part> {
         requires room { length buf.old ≡ (key self.now).layout.ring }
         ensures stays { (seat.new.table_id ≡ seat.old.table_id) × (seat.new.id ≡ seat.old.id) }
         ensures long { length buf.new ≡ length buf.old }
-        ensures copies { Copies T.state_of (frame_of (key self.now)) seat.old.me seat.new.me result buf.new };
+        ensures copies { Copies T.state_of (frame_of (key self.now)) (table self.now).slots seat.old.me seat.new.me result buf.new };
 
     /// Reads the archived front. No pin of the seat is past it, nor the cut of a shard in its hand.
     fn archived(&self, seat: &mut Seat<T>) -> u64

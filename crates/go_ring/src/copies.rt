@@ -58,7 +58,7 @@ pub(crate) fn copy_ring<T: Part>(ring: &Ring<T>, seat: &mut Seat<T>, buf: &mut [
     requires room { length buf.old ≡ ring.now.slots }
     ensures stays { (seat.new.table_id ≡ seat.old.table_id) × (seat.new.id ≡ seat.old.id) }
     ensures long { length buf.new ≡ length buf.old }
-    ensures copies { Copies T.state_of (frame_of ring.now.table.shared.key) seat.old.me seat.new.me result buf.new }
+    ensures copies { Copies T.state_of (frame_of ring.now.table.shared.key) ring.now.table.shared.table_id.slots seat.old.me seat.new.me result buf.new }
 {
     // A copy begins where the archived front is loaded right after the length, which has to be known again once it is.
     load_head(ring, seat);

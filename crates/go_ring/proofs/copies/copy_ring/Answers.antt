@@ -4,7 +4,7 @@ use Rattle.go_rule.specs.Views.{frame_of}
 use Rattle.go_rule.specs.Steps.{CanEnd}
 use Rattle.go_ring.specs.declared.copied.Copied.{Copied}
 use Rattle.go_ring.specs.Reads.{CanCopy, Held, Reads, StopsFor}
-use Rattle.go_ring.proofs.Copying.{goes_then, goes_reading, goes_ending}
+use Rattle.go_ring.proofs.Copying.{goes_same, goes_then, goes_reading, goes_head, goes_durable, goes_ending, goes_to_front}
 use Rattle.go_ring.proofs.Turns.{Copying, Turned, EndsAt, begun, copying, can_copy, read_as, live_on, turned, turns_on, strides, shrinks}
 use Rattle.go_ring.proofs.Ends.{can_end, ends, fronts, stops_so, ends_still}
 use Rattle.go_ring.proofs.copies.copy_ring.Goals as goal
@@ -28,6 +28,7 @@ loop-next-init g c =
       copying f m0.0 two.new.seat.me three.new.seat.me four.new.seat.me two.result three.result four.result c.min-from.result
           c.args.buf.now some' begin three.ensures.tells four.ensures.tells c.min-from.ensures,
       sym (ap (λ z. z.0.core.head) four.ensures.tells.becomes ∙ ap (λ z. z.0.core.head) three.ensures.tells.becomes),
+      goes_same four.new.seat.me.0,
     )
 
 pub copy_words-next-requires-clause-at : goal.copy_words-next-requires-clause-at
@@ -173,6 +174,10 @@ loop-next-preserved g c =
       words.ensures.long ∙ inv.3,
       subst (λ (k : ℕ). Copying f.slots from d m4.0 buf k) (sym next_is) on,
       sym (ap (λ z. z.0.core.head) four.ensures.tells.becomes ∙ ap (λ z. z.0.core.head) three.ensures.tells.becomes),
+      goes_then _ m3.0 m4.0
+          (goes_then _ m2.0 m3.0 (goes_to_front g.T.Part.state_of f m1 m2 two.result _ m0.0 inv.6 r.only two.ensures.tells)
+          (goes_head f m2 m3 three.result three.ensures.tells))
+          (goes_durable f m3 m4 n four.ensures.tells),
     )
 
 pub load_ending-durable-requires-clause-at : goal.load_ending-durable-requires-clause-at
@@ -263,7 +268,32 @@ returns-clause-copies g c =
     let onward = t.lap.onward in
     let known = l.front.known_to in
     let end = c.max-end.ensures in
+    let first = c.load_head in
+    let archived = c.load_archived-archived in
+    let again = c.load_head-head in
+    let durable = c.load_durable-first_durable in
     record {
+      released = from;
+      begins = record {
+        archived = archived.result;
+        durable = durable.result;
+        begun = durable.new.seat.me;
+        begins =
+            record {
+              head = first.result;
+              after_head = first.new.seat.me;
+              after_archived = archived.new.seat.me;
+              again = again.result;
+              after_again = again.new.seat.me;
+              length_is = first.ensures.tells;
+              archived_is = archived.ensures.tells;
+              still = again.ensures.tells;
+              durable_is = durable.ensures.tells;
+            };
+        lesser = c.min-from.ensures;
+        on = goes_then _ m2.0 m3.0 (goes_to_front g.T.Part.state_of f m1 m2 two.result _ m0.0 inv.6 r.only two.ensures.tells)
+            (goes_ending f copied.end m2 m3 copied.durable l);
+      };
       on = goes_then d m2.0 m3.0 t.on (goes_ending f copied.end m2 m3 copied.durable l);
       hand = ap (λ z. z.1) l.becomes ∙ ap (λ z. z.1) two.ensures.tells.becomes ∙ words.ensures.hand ∙ inv.2;
       fronts =
