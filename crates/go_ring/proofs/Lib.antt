@@ -5,4 +5,6 @@ pub mod Fills
 pub mod Unseen
 pub mod Turns
 pub mod Parts
+pub mod Puts
 pub mod Runs
+pub mod Workers

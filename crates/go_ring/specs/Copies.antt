@@ -1,5 +1,5 @@
 -- What a copy of the ring's words tells its seat.
-use Rattle.std.specs.Prelude.{◌≡◌, ◌⊎◌, ℕ, ◌+◌, ◌%◌, ◌<◌, ◌≤◌, min, true, false, List, [], length, take, All, Contains, slice_index}
+use Rattle.std.specs.Prelude.{◌≡◌, ℕ, ◌+◌, ◌%◌, ◌<◌, ◌≤◌, min, true, false, List, [], length, take, All, Contains, slice_index}
 use Rattle.atomic_table.specs.Table.{Me, step}
 use mathlib.Core.Option.{none}
 use Rattle.go_word.specs.Word.{is_matched}

@@ -24,3 +24,5 @@ pub use room::Room;
 
 #[cfg(test)]
 mod tests;
+#[cfg(test)]
+mod thread_tests;

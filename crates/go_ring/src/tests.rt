@@ -1,9 +1,13 @@
-// A ring of two slots over parts that stand for what they reach: with one seat, and with a thread that copies beside one that puts.
-ghost use Rattle.std.specs.Prelude.{◌≡◌, ◌+◌, ◌≤◌, ◌<◌, ◌^◌, IfOk, [], ◌∷◌, false};
+// Small rings over parts that stand for what they reach: with one seat, and with a thread that copies beside one that puts.
+ghost use Rattle.std.specs.Prelude.{◌≡◌, ◌+◌, ◌≤◌, ◌<◌, ◌^◌, IfOk, [], ◌∷◌, false, length, take, All, Contains};
+ghost use Rattle.go_word.specs.Word.{IsStorable};
+ghost use Rattle.go_rule.specs.Rule.{IsBelow};
 ghost use Rattle.go_rule.specs.Steps.{IsAt};
-ghost use Rattle.go_ring.specs.Samples.{Stays};
+ghost use Rattle.go_ring.specs.Claims.{entries_in};
+ghost use Rattle.go_ring.specs.Samples.{Stays, IsFresh};
 
-use crate::{Copied, CopyStop, Fill, RingCalls, Room, open};
+use crate::claim::CLAIM_MOST;
+use crate::{Claim, Copied, CopyStop, Fill, RingCalls, Room, open};
 use go_api::Stop;
 use go_core::{PartState, Pins};
 use go_rule::{Layout, Opened, Ring, Seat};
@@ -25,19 +29,22 @@ fn part(alloc: Global) -> PartState
     }
 }
 
-// A ring of two slots with one shard and the file, from position 0 on.
-fn opened(alloc: Global, quota: u64) -> Result<Opened<PartState>, AllocError>
-    requires { quota < 2 ^ 31 }
+// A ring of so many slots with one shard and the file, from position 0 on.
+pub(crate) fn opened(alloc: Global, slots: u64, quota: u64) -> Result<Opened<PartState>, AllocError>
+    requires slots { (0 < slots) × (slots ≤ 128) }
+    requires quota { quota < 2 ^ 31 }
     ensures at { IfOk result (λ o. IsAt o.ring.table.shared.table_id o.seat.table_id o.seat.me.0) }
-    ensures sizes { IfOk result (λ o. (o.ring.table.shared.key.layout.ring ≡ 2) × (o.ring.table.shared.key.layout.vertices ≡ 10)) }
+    ensures ring { IfOk result (λ o. o.ring.table.shared.key.layout.ring ≡ slots) }
+    ensures sizes { IfOk result (λ o. (o.ring.table.shared.key.layout.shards ≡ 1) × (o.ring.table.shared.key.layout.vertices ≡ 10000)) }
     ensures quota { IfOk result (λ o. (o.seat.me.0.share.quota ≡ quota) × (o.seat.me.0.share.lot ≡ 2 ^ 32) × (o.seat.me.0.stake.notes ≡ [])) }
+    ensures fresh { IfOk result (λ o. IsFresh o.seat.me) }
 {
     let mut parts = Vec::new(alloc);
     parts.push(part(alloc))?;
     parts.push(part(alloc))?;
     let layout = Layout {
-        vertices: 10,
-        ring: 2,
+        vertices: 10000,
+        ring: slots,
         shards: 1,
     };
     match open(
@@ -67,48 +74,119 @@ fn edge_to(dst: u32) -> Edge
     }
 }
 
-// Puts one edge, or gives its position up where the ring is full: then the flag is up.
-fn put(ring: &Ring<PartState>, seat: &mut Seat<PartState>, dst: u32) -> Option<u64>
+// As many of them as a claim may have.
+fn edges_to(dst: u32) -> [Edge; CLAIM_MOST]
+    requires { dst < 10000 }
+    ensures long { length result ≡ 64 }
+    ensures storable { All IsStorable result }
+    ensures below { All (IsBelow 10000) result }
+{
+    [edge_to(dst); CLAIM_MOST]
+}
+
+// Fills a claim once its slots are free. Where they aren't within so many tries it is given up, with the flag up, and what was released
+// at the last one is told.
+fn fill_in_time(
+    ring: &Ring<PartState>,
+    seat: &mut Seat<PartState>,
+    mut claim: Claim,
+    tries: u64,
+) -> Result<u64, u64>
+    requires at { IsAt ring.now.table.shared.table_id seat.old.table_id seat.old.me.0 }
+    requires owed { All (Contains seat.old.me.0.core.pending) (entries_in claim) }
+    requires storable { All IsStorable (take claim.len claim.edges) }
+    ensures at { IsAt ring.now.table.shared.table_id seat.new.table_id seat.new.me.0 }
+    ensures stays { Stays 0 seat.old.me.0 seat.new.me.0 }
+{
+    let mut left = tries;
+    let mut last = 0;
+    while left > 0 {
+        claim = match ring.fill(seat, claim) {
+            Fill::Done { position } => return Ok(position),
+            Fill::Held { claim, released } => {
+                last = released;
+                claim
+            }
+        };
+        thread::yield_now();
+        left -= 1;
+    }
+    ring.raise(seat, Stop::Memory);
+    ring.abandon(seat, claim);
+    Err(last)
+}
+
+// Puts edges by one claim, which is filled within so many tries or given up.
+pub(crate) fn put(
+    ring: &Ring<PartState>,
+    seat: &mut Seat<PartState>,
+    edges: &[Edge],
+    tries: u64,
+) -> Result<u64, u64>
+    requires at { IsAt ring.now.table.shared.table_id seat.old.table_id seat.old.me.0 }
+    requires some { 1 ≤ length edges.now }
+    requires few { length edges.now ≤ 64 }
+    requires storable { All IsStorable edges.now }
+    requires below { All (IsBelow ring.now.table.shared.key.layout.vertices) edges.now }
+    requires quota { length edges.now ≤ seat.old.me.0.share.quota }
+    ensures at { IsAt ring.now.table.shared.table_id seat.new.table_id seat.new.me.0 }
+    ensures stays { Stays (length edges.now) seat.old.me.0 seat.new.me.0 }
+{
+    let claim = ring.claim(seat, edges);
+    fill_in_time(ring, seat, claim, tries)
+}
+
+// Puts one edge.
+fn put_one(ring: &Ring<PartState>, seat: &mut Seat<PartState>, dst: u32) -> Result<u64, u64>
     requires at { IsAt ring.now.table.shared.table_id seat.old.table_id seat.old.me.0 }
     requires quota { 1 ≤ seat.old.me.0.share.quota }
-    requires below { (dst < 10) × (ring.now.table.shared.key.layout.vertices ≡ 10) }
+    requires below { (dst < 10000) × (ring.now.table.shared.key.layout.vertices ≡ 10000) }
     ensures at { IsAt ring.now.table.shared.table_id seat.new.table_id seat.new.me.0 }
     ensures stays { Stays 1 seat.old.me.0 seat.new.me.0 }
 {
-    let claim = ring.claim(seat, &[edge_to(dst)]);
-    match ring.fill(seat, claim) {
-        Fill::Done { position } => Some(position),
-        Fill::Held { claim, released: _ } => {
-            ring.raise(seat, Stop::Memory);
-            ring.abandon(seat, claim);
-            None
-        }
-    }
+    put(ring, seat, &[edge_to(dst)], 1)
 }
 
 #[test]
-fn a_full_ring_holds_a_claim_until_the_flag_is_raised(rt: HostRuntime) -> Result<(), Fail> {
-    let Opened { ring, mut seat } = opened(rt.alloc(), 3)?;
-    assert!(rt; ring.room(&mut seat) == Room::Free);
-    assert!(rt; put(&ring, &mut seat, 1) == Some(0) && put(&ring, &mut seat, 2) == Some(1));
+fn two_claims_of_64_fill_a_ring_of_128(rt: HostRuntime) -> Result<(), Fail> {
+    let Opened { ring, mut seat } = opened(rt.alloc(), 128, 129)?;
+    let edges = edges_to(1);
     assert!(rt;
-        ring.room(&mut seat)
-            == Room::Full {
-                head: 2,
-                released: 0
-            }
+        put(&ring, &mut seat, &edges, 1) == Ok(0) && put(&ring, &mut seat, &edges, 1) == Ok(64)
     );
-    assert!(rt; ring.flag(&mut seat) == None);
-    assert!(rt; put(&ring, &mut seat, 3) == None);
+    let full = Room::Full {
+        head: 128,
+        released: 0,
+    };
+    assert!(rt; ring.room(&mut seat) == full);
+    assert!(rt; put_one(&ring, &mut seat, 2) == Err(0));
     assert!(rt; ring.flag(&mut seat) == Some(Stop::Memory));
     let closed = ring.close(seat);
-    assert!(rt; closed.head == 3 && closed.archived == 0 && closed.parts.len() == 2);
+    assert!(rt; closed.head == 129 && closed.archived == 0 && closed.parts.len() == 2);
     Ok(())
 }
 
+// Claims a position, copies, and fills the claim then: what the copy tells, and where the edge stands.
+fn copy_before_fill(
+    ring: &Ring<PartState>,
+    seat: &mut Seat<PartState>,
+    words: &mut [u64; 2],
+    dst: u32,
+) -> (Copied, Result<u64, u64>)
+    requires at { IsAt ring.now.table.shared.table_id seat.old.table_id seat.old.me.0 }
+    requires quota { 1 ≤ seat.old.me.0.share.quota }
+    requires below { (dst < 10000) × (ring.now.table.shared.key.layout.vertices ≡ 10000) }
+    requires ring { ring.now.table.shared.key.layout.ring ≡ 2 }
+    ensures at { IsAt ring.now.table.shared.table_id seat.new.table_id seat.new.me.0 }
+{
+    let claim = ring.claim(seat, &[edge_to(dst)]);
+    let copied = ring.copy(seat, words);
+    (copied, fill_in_time(ring, seat, claim, 1))
+}
+
 #[test]
-fn a_copy_ends_at_the_length_and_then_at_the_window(rt: HostRuntime) -> Result<(), Fail> {
-    let Opened { ring, mut seat } = opened(rt.alloc(), 2)?;
+fn a_copy_ends_at_the_length_at_a_gap_and_at_the_window(rt: HostRuntime) -> Result<(), Fail> {
+    let Opened { ring, mut seat } = opened(rt.alloc(), 2, 2)?;
     let mut words = [0; 2];
     let empty = Copied {
         archived: 0,
@@ -117,15 +195,20 @@ fn a_copy_ends_at_the_length_and_then_at_the_window(rt: HostRuntime) -> Result<(
         stop: CopyStop::Head { head: 0 },
     };
     assert!(rt; ring.copy(&mut seat, &mut words) == empty);
-    assert!(rt; put(&ring, &mut seat, 1) == Some(0));
+    assert!(rt; put_one(&ring, &mut seat, 1) == Ok(0));
     let one = Copied {
         end: 1,
         stop: CopyStop::Head { head: 1 },
         ..empty
     };
     assert!(rt; ring.copy(&mut seat, &mut words) == one);
+    let gap = Copied {
+        end: 1,
+        stop: CopyStop::Unwritten { position: 1 },
+        ..empty
+    };
+    assert!(rt; copy_before_fill(&ring, &mut seat, &mut words, 2) == (gap, Ok(1)));
     assert!(rt; words[0] == encode(edge_to(1), 0, 2));
-    assert!(rt; put(&ring, &mut seat, 2) == Some(1));
     let two = Copied {
         end: 2,
         stop: CopyStop::Window { from: 0 },
@@ -133,6 +216,17 @@ fn a_copy_ends_at_the_length_and_then_at_the_window(rt: HostRuntime) -> Result<(
     };
     assert!(rt; ring.copy(&mut seat, &mut words) == two);
     assert!(rt; words == [encode(edge_to(1), 0, 2), encode(edge_to(2), 1, 2)]);
+    Ok(())
+}
+
+#[test]
+fn a_worker_is_joined_and_the_ring_closed(rt: HostRuntime) -> Result<(), Fail> {
+    let Opened { ring, mut seat } = opened(rt.alloc(), 2, 2)?;
+    let mut flusher = ring.split(&mut seat, 1, 1);
+    assert!(rt; ring.durable(&mut flusher) == 0);
+    ring.join(&mut seat, flusher);
+    let closed = ring.close(seat);
+    assert!(rt; closed.head == 0 && closed.durable == 0 && closed.parts.len() == 2);
     Ok(())
 }
 
@@ -146,14 +240,14 @@ fn put_and_copy<R: Threads + Sync>(
     requires at { IsAt ring.now.table.shared.table_id seat.old.table_id seat.old.me.0 }
     requires quota { 2 ≤ seat.old.me.0.share.quota }
     requires lot { 2 ≤ seat.old.me.0.share.lot }
-    requires sizes { (ring.now.table.shared.key.layout.ring ≡ 2) × (ring.now.table.shared.key.layout.vertices ≡ 10) }
+    requires sizes { (ring.now.table.shared.key.layout.ring ≡ 2) × (ring.now.table.shared.key.layout.vertices ≡ 10000) }
 {
     let mut other = ring.split(seat, 0, 1);
     let ((), copied) = thread::join(
         rt,
         move || {
-            put(ring, seat, 1);
-            put(ring, seat, 2);
+            let _ = put_one(ring, seat, 1);
+            let _ = put_one(ring, seat, 2);
         },
         move || -> Copied { ring.copy(&mut other, words) },
     );
@@ -162,7 +256,7 @@ fn put_and_copy<R: Threads + Sync>(
 
 #[test]
 fn a_copy_beside_puts_has_the_words_up_to_its_end(rt: HostRuntime) -> Result<(), Fail> {
-    let Opened { ring, mut seat } = opened(rt.alloc(), 2)?;
+    let Opened { ring, mut seat } = opened(rt.alloc(), 2, 2)?;
     let mut words = [0; 2];
     let copied = put_and_copy(&rt, &ring, &mut seat, &mut words);
     assert!(rt; copied.archived == 0 && copied.durable == 0 && copied.end <= 2);
