@@ -1,4 +1,4 @@
--- What the tests ask of a seat.
+-- What tests and benchmarks ask of a seat.
 use Rattle.std.specs.Prelude.{◌≡◌, ◌⊎◌, ℕ, ◌+◌, ◌≤◌, true, length, Contains}
 use Rattle.atomic_table.specs.Seated.{TableId}
 use Rattle.atomic_table.specs.Table.{Me}
@@ -13,10 +13,10 @@ pub record Stays {P : Type 0} (used : ℕ) (d e : SeatView P) : Type 0 where
   pub lot : e.share.lot ≡ d.share.lot
   pub stake : e.stake ≡ d.stake
 
--- a seat of the ring may put what a thread puts
-pub record MayPut {P : Type 0} (table seat : TableId) (d : SeatView P) : Type 0 where
+-- a seat of the ring may put so many entries
+pub record MayPut {P : Type 0} (most : ℕ) (table seat : TableId) (d : SeatView P) : Type 0 where
   pub at : IsAt table seat d
-  pub quota : 6000 ≤ d.share.quota
+  pub quota : most ≤ d.share.quota
 
 -- a seat moves a front, of the shard at place 0 or of the file at place 1, took all up to a position, and knows its front no further than that
 pub record IsWorker {P : Type 0} (place front : ℕ) (d : SeatView P) : Type 0 where

@@ -34,7 +34,7 @@ fn edge(src: u32, number: u32) -> Edge
 
 // Puts all edges of a thread, in claims of three.
 fn put_all(ring: &Ring<PartState>, mut seat: Seat<PartState>, src: u32) -> bool
-    requires may { MayPut ring.now.table.shared.table_id seat.table_id seat.me.0 }
+    requires may { MayPut 6000 ring.now.table.shared.table_id seat.table_id seat.me.0 }
     requires src { src < 4 }
     requires sizes { ring.now.table.shared.key.layout.vertices ≡ 10000 }
 {
@@ -137,8 +137,8 @@ fn put_two<R: Threads + Sync>(
     two: Seat<PartState>,
     src: u32,
 ) -> bool
-    requires one { MayPut ring.now.table.shared.table_id one.table_id one.me.0 }
-    requires two { MayPut ring.now.table.shared.table_id two.table_id two.me.0 }
+    requires one { MayPut 6000 ring.now.table.shared.table_id one.table_id one.me.0 }
+    requires two { MayPut 6000 ring.now.table.shared.table_id two.table_id two.me.0 }
     requires src { src < 3 }
     requires sizes { ring.now.table.shared.key.layout.vertices ≡ 10000 }
 {
@@ -159,22 +159,22 @@ fn put_four<R: Threads + Sync>(
     three: Seat<PartState>,
     four: Seat<PartState>,
 ) -> bool
-    requires one { MayPut ring.now.table.shared.table_id one.table_id one.me.0 }
-    requires two { MayPut ring.now.table.shared.table_id two.table_id two.me.0 }
-    requires three { MayPut ring.now.table.shared.table_id three.table_id three.me.0 }
-    requires four { MayPut ring.now.table.shared.table_id four.table_id four.me.0 }
+    requires one { MayPut 6000 ring.now.table.shared.table_id one.table_id one.me.0 }
+    requires two { MayPut 6000 ring.now.table.shared.table_id two.table_id two.me.0 }
+    requires three { MayPut 6000 ring.now.table.shared.table_id three.table_id three.me.0 }
+    requires four { MayPut 6000 ring.now.table.shared.table_id four.table_id four.me.0 }
     requires sizes { ring.now.table.shared.key.layout.vertices ≡ 10000 }
 {
     let (low, high) = thread::join(
         rt,
         move || -> bool
-            requires one { MayPut ring.now.table.shared.table_id one.table_id one.me.0 }
-            requires two { MayPut ring.now.table.shared.table_id two.table_id two.me.0 }
+            requires one { MayPut 6000 ring.now.table.shared.table_id one.table_id one.me.0 }
+            requires two { MayPut 6000 ring.now.table.shared.table_id two.table_id two.me.0 }
             requires sizes { ring.now.table.shared.key.layout.vertices ≡ 10000 }
         { put_two(rt, ring, one, two, 0) },
         move || -> bool
-            requires three { MayPut ring.now.table.shared.table_id three.table_id three.me.0 }
-            requires four { MayPut ring.now.table.shared.table_id four.table_id four.me.0 }
+            requires three { MayPut 6000 ring.now.table.shared.table_id three.table_id three.me.0 }
+            requires four { MayPut 6000 ring.now.table.shared.table_id four.table_id four.me.0 }
             requires sizes { ring.now.table.shared.key.layout.vertices ≡ 10000 }
         { put_two(rt, ring, three, four, 2) },
     );
@@ -225,10 +225,10 @@ fn run_all<R: Threads + Sync>(
     thread::join(
         rt,
         move || -> bool
-            requires one { MayPut ring.now.table.shared.table_id one.table_id one.me.0 }
-            requires two { MayPut ring.now.table.shared.table_id two.table_id two.me.0 }
-            requires three { MayPut ring.now.table.shared.table_id three.table_id three.me.0 }
-            requires four { MayPut ring.now.table.shared.table_id four.table_id four.me.0 }
+            requires one { MayPut 6000 ring.now.table.shared.table_id one.table_id one.me.0 }
+            requires two { MayPut 6000 ring.now.table.shared.table_id two.table_id two.me.0 }
+            requires three { MayPut 6000 ring.now.table.shared.table_id three.table_id three.me.0 }
+            requires four { MayPut 6000 ring.now.table.shared.table_id four.table_id four.me.0 }
             requires sizes { ring.now.table.shared.key.layout.vertices ≡ 10000 }
         { put_four(rt, ring, one, two, three, four) },
         move || -> (Result<Vec<Edge>, AllocError>, Result<Vec<Edge>, AllocError>)
