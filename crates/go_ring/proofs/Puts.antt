@@ -1,9 +1,10 @@
 -- A seat that fills a claim or gives it up stays live, with its shares and its stake; and what it owes stays so while the claim is held.
-use Rattle.std.proofs.Common.{◌≡◌, ℕ, ◌+◌, List, [], ◌∷◌, ◌++◌, map, sym, refl, ap, ◌∙◌, arith, subst}
+use Rattle.std.proofs.Common.{◌≡◌, ℕ, ◌+◌, ◌<◌, List, [], ◌∷◌, ◌++◌, map, take, sym, refl, ap, ◌∙◌, arith, subst}
 use Rattle.std.specs.Prelude.{All, Contains}
-use Rattle.std.proofs.lemmas.List.Elements.{All-weaker, All-contains_itself, Contains-append_right}
+use Rattle.std.proofs.lemmas.List.Elements.{All-nil, All-cons, All-weaker, All-contains_itself, Contains-append_right}
 use Rattle.atomic_table.specs.Table.{Me}
 use Rattle.go_word.specs.declared.edge.Edge.{Edge}
+use Rattle.go_word.specs.Word.{IsStorable}
 use Rattle.go_core.specs.declared.entry.Entry.{Entry}
 use Rattle.go_core.specs.declared.part.PartState.{PartState}
 use Rattle.go_core.specs.Frame.{Frame}
@@ -31,12 +32,23 @@ owed_still one two xs ys claim same all =
     subst (λ (k : Claim). All (Contains ys) (entries_in k)) (sym claim) (subst (λ (zs : List Entry). All (Contains zs) (entries_in one)) (sym same) all)
 
 -- entries at one position that are the same have the same edges
-pub numbered_same : (p : ℕ) (xs ys : List Edge) → numbered p xs ≡ numbered p ys → xs ≡ ys
+numbered_same : (p : ℕ) (xs ys : List Edge) → numbered p xs ≡ numbered p ys → xs ≡ ys
 numbered_same p xs ys is = sym (edges_of p xs) ∙ ap (map (λ (x : Entry). x.edge)) is ∙ edges_of p ys
   where
     edges_of : (p : ℕ) (es : List Edge) → map (λ (x : Entry). x.edge) (numbered p es) ≡ es
     edges_of p [] = refl
     edges_of p (e ∷ es) = ap (λ zs. e ∷ zs) (edges_of (p + 1) es)
+
+-- so that its edges can be stored where those that were handed in can
+pub claim_storable : (claim : Claim) (es : List Edge) → entries_in claim ≡ numbered claim.first es → All IsStorable es
+    → All IsStorable (take claim.len claim.edges)
+claim_storable claim es is all =
+    subst (λ (xs : List Edge). All IsStorable xs) (sym (numbered_same claim.first (take claim.len claim.edges) es is)) all
+
+-- one edge can, between few vertices
+pub one_storable : (e : Edge) → e.src < 10000 → e.dst < 10000 → All IsStorable (e ∷ [])
+one_storable e src dst =
+    All-cons IsStorable e [] (record { within = record { source = omega arith; destination = omega arith } }) (All-nil IsStorable)
 
 module _ {P : Type 0} where
   -- a seat is live as it was, and has its shares and its stake

@@ -26,3 +26,5 @@ pub use room::Room;
 mod tests;
 #[cfg(test)]
 mod thread_tests;
+#[cfg(test)]
+mod worker_tests;

@@ -64,7 +64,7 @@ pub(crate) fn opened(alloc: Global, slots: u64, quota: u64) -> Result<Opened<Par
 }
 
 // An edge from vertex 0.
-fn edge_to(dst: u32) -> Edge
+pub(crate) fn edge_to(dst: u32) -> Edge
     ensures { result ≡ record { del = false; src = 0; dst = dst } }
 {
     Edge {
@@ -86,7 +86,7 @@ fn edges_to(dst: u32) -> [Edge; CLAIM_MOST]
 
 // Fills a claim once its slots are free. Where they aren't within so many tries it is given up, with the flag up, and what was released
 // at the last one is told.
-fn fill_in_time(
+pub(crate) fn fill_in_time(
     ring: &Ring<PartState>,
     seat: &mut Seat<PartState>,
     mut claim: Claim,
@@ -137,7 +137,11 @@ pub(crate) fn put(
 }
 
 // Puts one edge.
-fn put_one(ring: &Ring<PartState>, seat: &mut Seat<PartState>, dst: u32) -> Result<u64, u64>
+pub(crate) fn put_one(
+    ring: &Ring<PartState>,
+    seat: &mut Seat<PartState>,
+    dst: u32,
+) -> Result<u64, u64>
     requires at { IsAt ring.now.table.shared.table_id seat.old.table_id seat.old.me.0 }
     requires quota { 1 ≤ seat.old.me.0.share.quota }
     requires below { (dst < 10000) × (ring.now.table.shared.key.layout.vertices ≡ 10000) }

@@ -1,13 +1,14 @@
 // Four threads put and two workers move the fronts, over a small ring: both take the same log, which interleaves what was put.
-ghost use Rattle.std.specs.Prelude.{◌≡◌, ◌+◌, ◌<◌, ◌^◌, true, false};
+ghost use Rattle.std.specs.Prelude.{◌≡◌, ◌<◌, ◌^◌, false};
 ghost use Rattle.go_rule.specs.Steps.{IsAt};
 ghost use Rattle.go_rule.specs.Samples.{IsFree};
-ghost use Rattle.go_ring.specs.Samples.{IsFresh, IsWorker, HasBrought, MayPut};
+ghost use Rattle.go_ring.specs.Samples.{IsFresh, IsWorker, MayPut};
 
 use crate::RingCalls;
 use crate::tests::{opened, put};
+use crate::worker_tests::turn;
 use go_core::PartState;
-use go_rule::{Opened, Ring, Seat, give_turn, take_turn};
+use go_rule::{Opened, Ring, Seat};
 use go_word::Edge;
 use std::alloc::{AllocError, Global};
 use std::test::Fail;
@@ -54,48 +55,6 @@ fn put_all(ring: &Ring<PartState>, mut seat: Seat<PartState>, src: u32) -> bool
     true
 }
 
-// Brings a worker's part on to what the worker took, where its turn is free.
-fn bring_on(ring: &Ring<PartState>, seat: &mut Seat<PartState>, place: u64, front: u64) -> bool
-    requires at { IsAt ring.now.table.shared.table_id seat.old.table_id seat.old.me.0 }
-    requires free { IsFree seat.old.me }
-    requires worker { IsWorker place front seat.old.me.0 }
-    requires shards { ring.now.shards ≡ 1 }
-    ensures at { IsAt ring.now.table.shared.table_id seat.new.table_id seat.new.me.0 }
-    ensures free { result ≡ true → IsFree seat.new.me }
-    ensures worker { result ≡ true → IsWorker place front seat.new.me.0 }
-    ensures brought { result ≡ true → HasBrought place front seat.new.me.0 }
-{
-    if take_turn(ring, seat, place) != 0 {
-        return false;
-    }
-    let Some(mut part) = ring.table.shared.exchange(seat, place as usize, None) else {
-        unreachable!()
-    };
-    part.front = part.front.max(front);
-    let left = ring.table.shared.exchange(seat, place as usize, Some(part));
-    drop(left);
-    give_turn(ring, seat, place);
-    true
-}
-
-// Moves the front of a worker to where its part was brought: the archived one of the shard, and the durable one of the file.
-fn move_front(ring: &Ring<PartState>, seat: &mut Seat<PartState>, place: u64, front: u64)
-    requires at { IsAt ring.now.table.shared.table_id seat.old.table_id seat.old.me.0 }
-    requires free { IsFree seat.old.me }
-    requires worker { IsWorker place front seat.old.me.0 }
-    requires brought { HasBrought place front seat.old.me.0 }
-    requires shards { ring.now.shards ≡ 1 }
-    ensures at { IsAt ring.now.table.shared.table_id seat.new.table_id seat.new.me.0 }
-    ensures free { IsFree seat.new.me }
-    ensures worker { IsWorker place front seat.new.me.0 }
-{
-    if place == 0 {
-        ring.advance_archived(seat, front);
-    } else {
-        ring.advance_durable(seat, front);
-    }
-}
-
 // Takes all entries in their turn, and moves the front after each run of them.
 fn work(
     alloc: Global,
@@ -113,15 +72,10 @@ fn work(
     let mut front = 0;
     let mut left = u64::MAX;
     while front < ENTRIES && left > 0 {
-        let count = ring.take(&mut seat, front, &mut run);
-        if count > 0 {
-            log.extend_from_slice(&run[..count])?;
-            front += count as u64;
-            if !bring_on(ring, &mut seat, place, front) {
-                return Err(AllocError);
-            }
-            move_front(ring, &mut seat, place, front);
-        } else {
+        let count = turn(ring, &mut seat, place, front, &mut run).ok_or(AllocError)?;
+        log.extend_from_slice(&run[..count])?;
+        front += count as u64;
+        if count == 0 {
             thread::yield_now();
         }
         left -= 1;

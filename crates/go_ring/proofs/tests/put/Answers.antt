@@ -1,9 +1,6 @@
 -- `put`: a new claim is owed, and its edges are those that were handed in.
-use Rattle.std.proofs.Common.{◌≡◌, List, take, sym, ap, subst}
-use Rattle.std.specs.Prelude.{All}
-use Rattle.go_word.specs.declared.edge.Edge.{Edge}
-use Rattle.go_word.specs.Word.{IsStorable}
-use Rattle.go_ring.proofs.Puts.{claim_owed, numbered_same}
+use Rattle.std.proofs.Common.{ap}
+use Rattle.go_ring.proofs.Puts.{claim_owed, claim_storable}
 use Rattle.go_ring.proofs.tests.put.Goals as goal
 
 pub fill_in_time-requires-clause-owed : goal.fill_in_time-requires-clause-owed
@@ -13,9 +10,4 @@ fill_in_time-requires-clause-owed c =
     (ap (λ z. z.0.core.pending) claimed.tells.0)
 
 pub fill_in_time-requires-clause-storable : goal.fill_in_time-requires-clause-storable
-fill_in_time-requires-clause-storable c =
-    let claim = c.claim-claim.result in
-    let same : take claim.len claim.edges ≡ c.args.edges.now =
-    numbered_same claim.first (take claim.len claim.edges) c.args.edges.now c.claim-claim.ensures.edges
-    in
-    subst (λ (es : List Edge). All IsStorable es) (sym same) c.requires.storable
+fill_in_time-requires-clause-storable c = claim_storable c.claim-claim.result c.args.edges.now c.claim-claim.ensures.edges c.requires.storable

@@ -8,7 +8,7 @@ use Rattle.go_rule.specs.Views.{frame_of}
 use Rattle.go_rule.proofs.Samples.{plain_meaning}
 use Rattle.go_rule.proofs.TurnCalls.{headed, value_is, part_taken, slot_taken, has_part}
 use Rattle.go_ring.proofs.Workers.{worker_can, brought}
-use Rattle.go_ring.proofs.thread_tests.bring_on.Goals as goal
+use Rattle.go_ring.proofs.worker_tests.bring_on.Goals as goal
 
 pub exchange-requires : goal.exchange-requires
 exchange-requires c =
