@@ -1,2 +1,3 @@
 -- The definitions of the benchmarks.
 pub mod Filled
+pub mod Shares
