@@ -72,7 +72,8 @@ module _ {P : Type 0} where
 
   module _ {S : Type 0} where
     -- a copy begins by loads of the length, of the archived front right after it, of the length again, and of the durable front
-    pub record Begins (state_of : P → PartState) (f : Frame) (words : ℕ) (me : Me S (SeatView P)) (archived durable : ℕ) (now : Me S (SeatView P)) : Type 0 where
+    pub record FirstLoads (state_of : P → PartState) (f : Frame) (words : ℕ) (me : Me S (SeatView P)) (archived durable : ℕ) (now : Me S (SeatView P))
+        : Type 0 where
       pub head : ℕ
       pub after_head : Me S (SeatView P)
       pub after_archived : Me S (SeatView P)
@@ -84,18 +85,18 @@ module _ {P : Type 0} where
       pub durable_is : LoadsDurable f (step words 2 0 0 none) after_again durable now
 
     -- by which so much was released, and from where it went on
-    pub record BeginsAt (state_of : P → PartState) (f : Frame) (words : ℕ) (me now : Me S (SeatView P)) (released : ℕ) : Type 0 where
+    pub record HasBegun (state_of : P → PartState) (f : Frame) (words : ℕ) (me now : Me S (SeatView P)) (released : ℕ) : Type 0 where
       pub archived : ℕ
       pub durable : ℕ
       pub begun : Me S (SeatView P)
-      pub begins : Begins state_of f words me archived durable begun
+      pub loads : FirstLoads state_of f words me archived durable begun
       pub lesser : released ≡ min archived durable
       pub on : GoesOn begun.0 now.0
 
     -- the ring's words were copied into a buffer of as many, and both fronts were loaded after them
     pub record Copies (state_of : P → PartState) (f : Frame) (words : ℕ) (me now : Me S (SeatView P)) (copied : Copied) (buf : List ℕ) : Type 0 where
       pub released : ℕ
-      pub begins : BeginsAt state_of f words me now released
+      pub begins : HasBegun state_of f words me now released
       pub on : GoesOn me.0 now.0
       pub hand : now.1 ≡ me.1
       pub fronts : TellsFronts state_of f me.0 now.0 copied

@@ -10,15 +10,16 @@ use Rattle.go_rule.specs.Rule.{IsBelow}
 use Rattle.go_rule.specs.Views.{with_unmoved}
 use Rattle.go_rule.specs.Steps.{Becomes, SeesOn, Took}
 
--- the word of a position was read in its turn and isn't matched: the position is past all that the seat had seen
-pub record IsUnwritten (slots seen p : ℕ) : Type 0 where
+-- the word of a position was read in its turn and isn't matched: the position is past all that the seat had seen, and had taken
+pub record IsUnwritten {P : Type 0} (slots : ℕ) (d : SeatView P) (p : ℕ) : Type 0 where
   pub word : ℕ
   pub unmatched : is_matched slots p word ≡ false
-  pub unseen : seen ≤ p
+  pub unseen : d.core.seen ≤ p
+  pub untaken : d.core.taken ≤ p
 
 -- why a run of so many entries is no longer: no more fit, or the word of the next position isn't there yet
-abbrev pub IsLongest : ℕ → ℕ → ℕ → ℕ → ℕ → Type 0
-IsLongest slots room seen from count = (count ≡ room) ⊎ IsUnwritten slots seen (from + count)
+abbrev pub IsLongest : {P : Type 0} → ℕ → ℕ → SeatView P → ℕ → ℕ → Type 0
+IsLongest slots room d from count = (count ≡ room) ⊎ IsUnwritten slots d (from + count)
 
 -- all up to n is seen and taken
 abbrev pub with_run : {P : Type 0} → ℕ → List Edge → SeatView P → SeatView P
@@ -28,11 +29,11 @@ with_run n seen d = record d {
 }
 
 module _ {P S : Type 0} where
-  -- the position's word n is matched, and the seat has taken its entry; or it isn't, and the position is past all that the seat has seen
+  -- the position's word n is matched, and the seat has taken its entry; or it isn't, and the position is past all that the seat has seen and taken
   abbrev pub ReadsInTurn : ℕ → ℕ → Step S → Me S (SeatView P) → ℕ → Me S (SeatView P) → Type 0
   ReadsInTurn slots p step me n now =
       ((is_matched slots p n ≡ true) × Took p me n now)
-      ⊎ ((is_matched slots p n ≡ false) × (me.0.core.seen ≤ p) × Becomes (with_unmoved me.0) me now)
+      ⊎ ((is_matched slots p n ≡ false) × (me.0.core.seen ≤ p) × (me.0.core.taken ≤ p) × Becomes (with_unmoved me.0) me now)
 
   -- the entries from a position on were read in their turn: they are those that were seen there, between vertices of the graph
   pub record Takes (from : ℕ) (es : List Edge) (me now : Me S (SeatView P)) : Type 0 where

@@ -89,8 +89,8 @@ pub trait RingCalls<T: Part> {
         ensures stays { (seat.new.table_id ≡ seat.old.table_id) × (seat.new.id ≡ seat.old.id) }
         ensures given_up { seat.new.me ≡ (for_each with_abandoned (entries_in claim) seat.old.me.0, seat.old.me.1) };
 
-    /// Reads entries in their turn from a position on: as many as there are in a row and fit, and no fewer than the seat had seen. Only who
-    /// moves a front may.
+    /// Reads entries in their turn from a position on: as many as there are in a row and fit, among them all that the seat had seen.
+    /// Only who moves a front may.
     fn take(&self, seat: &mut Seat<T>, from: u64, out: &mut [Edge]) -> usize
         requires at { IsAt (table self.now) seat.old.table_id seat.old.me.0 }
         requires can { CanTakeNext seat.old.me.0 from }
@@ -98,7 +98,7 @@ pub trait RingCalls<T: Part> {
         ensures few { result ≤ length out.old }
         ensures rest { (length out.new ≡ length out.old) × (drop result out.new ≡ drop result out.old) }
         ensures takes { TakeIs from (length out.old) (take result out.new) seat.old.me seat.new.me }
-        ensures longest { IsLongest (key self.now).layout.ring (length out.old) seat.old.me.0.core.seen from result };
+        ensures longest { IsLongest (key self.now).layout.ring (length out.old) seat.old.me.0 from result };
 
     /// Copies the ring's words into a buffer of as many, each at its position's remainder, and loads both fronts after them.
     /// From the lesser front up to the end the buffer has the words of the entries; the end is at or past the archived front.

@@ -1,4 +1,4 @@
-// A word is read in its turn: where it isn't matched, its position is past all that the seat has seen.
+// A word is read in its turn: where it isn't matched, its position is past all that the seat has seen and taken.
 ghost use Rattle.std.specs.Prelude.{◌≡◌};
 ghost use Rattle.go_rule.specs.Steps.{IsAt, CanTakeNext};
 ghost use Rattle.go_ring.specs.Takes.{ReadsInTurn};

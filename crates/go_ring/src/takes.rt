@@ -21,7 +21,7 @@ pub(crate) fn take_run<T: Part>(
     ensures few { result ≤ length out.old }
     ensures rest { (length out.new ≡ length out.old) × (drop result out.new ≡ drop result out.old) }
     ensures takes { TakeIs from (length out.old) (take result out.new) seat.old.me seat.new.me }
-    ensures longest { IsLongest ring.now.slots (length out.old) seat.old.me.0.core.seen from result }
+    ensures longest { IsLongest ring.now.slots (length out.old) seat.old.me.0 from result }
 {
     let mut count = 0;
     while count < out.len() {

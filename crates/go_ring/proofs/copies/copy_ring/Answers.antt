@@ -278,7 +278,7 @@ returns-clause-copies g c =
         archived = archived.result;
         durable = durable.result;
         begun = durable.new.seat.me;
-        begins =
+        loads =
             record {
               head = first.result;
               after_head = first.new.seat.me;
