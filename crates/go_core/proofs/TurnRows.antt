@@ -44,8 +44,8 @@ turn_or_not m i b log live tied false is =
     (unmoved_keeps m.frame log m.words (views_of m.parties) i (party_at m i).view (party_there m i live) live tied.tied) tied.fits tied
 
 -- a part is taken out
-pub out_done : (m : Machine) (i : ℕ) (b : Bool) (log : List Edge) → (party_at m i).view.live ≡ true → (hold_of b (party_at m i).stake).turn ≡ true → IsTied m log
-    → IsTied (with_part b (record { part = (home_of b m.parts).part; out = true }) (with_view i (unmoved (party_at m i).view) m)) log
+pub out_done : (m : Machine) (i : ℕ) (b : Bool) (log : List Edge) → (party_at m i).view.live ≡ true → (hold_of b (party_at m i).stake).turn ≡ true
+    → IsTied m log → IsTied (with_part b (record { part = (home_of b m.parts).part; out = true }) (with_view i (unmoved (party_at m i).view) m)) log
 out_done m i b log live turn tied =
     record {
       tied = subst (TiedBy m.frame log m.words) (sym (views-set m.parties i _))

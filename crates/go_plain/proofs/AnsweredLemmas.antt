@@ -90,7 +90,9 @@ module _ {D : Type 0} (device : Device D) where
   synced old mid number front only durable session sound whole =
       let after = standing_of device (seen_by mid number) number in
       record {
-        sees = sees_on (standing_of device old number) (standing_of device mid number) after (moves_see device old mid number only) (looked device mid number session sound);
+        sees =
+            sees_on (standing_of device old number) (standing_of device mid number) after (moves_see device old mid number only)
+            (looked device mid number session sound);
         front_is = front_before old mid number front after only
             (subst (λ (n : ℕ). IsFront n (standing_of device mid number) after) (sym whole) (looked_front device mid number session sound));
         durable = omega (arith, whole, durable);

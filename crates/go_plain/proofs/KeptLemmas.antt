@@ -181,14 +181,18 @@ told_none entries latest told s gone was =
           grind (arith, nat_tests, gone, named)
     ]
 
+-- nothing stands in a ring's lists
+pub record IsBare (ring : Inside) : Type 0 where
+  pub entries : ring.entries.items ≡ []
+  pub owners : ring.owners.items ≡ []
+  pub prior : ring.prior.items ≡ []
+  pub skips : ring.skips.items ≡ []
+
 -- a ring without entries, as its fields have it
 pub record HasCleared (old new : Inside) : Type 0 where
-  pub entries : new.entries.items ≡ []
-  pub owners : new.owners.items ≡ []
+  pub bare : IsBare new
   pub latest : length new.latest.items ≡ length old.latest.items
   pub gone : (s : ℕ) → get_or new.latest.items s 0 ≡ (if raw old.entries.items s == 0 then get_or old.latest.items s 0 else 0)
-  pub prior : new.prior.items ≡ []
-  pub skips : new.skips.items ≡ []
   pub room : new.room ≡ old.room
   pub mark : new.mark ≡ 0
   pub memory : HasMemory new
@@ -200,17 +204,17 @@ kept_clear old new kept cleared = record {
     some = rw cleared.room kept.sound.some;
     small = rw cleared.room kept.sound.small;
     few = omega (arith, cleared.latest, kept.sound.few);
-    within = rw cleared.entries (omega arith);
-    owned = rw (cleared.owners, cleared.entries) refl;
-    ids = rw cleared.entries (All-nil (IsWithin (length new.latest.items)));
+    within = rw cleared.bare.entries (omega arith);
+    owned = rw (cleared.bare.owners, cleared.bare.entries) refl;
+    ids = rw cleared.bare.entries (All-nil (IsWithin (length new.latest.items)));
   };
-  chained = rw (cleared.entries, cleared.prior) (record {
+  chained = rw (cleared.bare.entries, cleared.bare.prior) (record {
     slots = refl;
     told = λ s below. told_none old.entries.items old.latest.items new.latest.items s (cleared.gone s)
         (kept.chained.told s (omega (arith, below, cleared.latest)));
     linked = λ k d within. absurd (omega (arith, within));
   });
-  skipping = rw (cleared.entries, cleared.skips, cleared.mark) (record {
+  skipping = rw (cleared.bare.entries, cleared.bare.skips, cleared.mark) (record {
     count = refl;
     within = omega arith;
     each = λ k d below. absurd (omega (arith, below));

@@ -29,13 +29,30 @@ use Rattle.go_plain.specs.declared.seat.Seat.{Seat}
 use Rattle.go_plain.proofs.ArrangedLemmas.{arranged_push, arranged_seat, arranged_with, arranged_moved, ring_length}
 use Rattle.go_plain.proofs.PastLemmas.{with_one, without_all}
 
+-- what the fields of a store show: its ring, its log, and who put each entry
+pub record Shown : Type 0 where
+  pub ring : RingState
+  pub log : List Edge
+  pub owners : List ℕ
+
+-- one entry more, that a session put
+pub record ShowsPut {D : Type 0} (store : PlainState D) (ring : RingState) (number : ℕ) (e : Edge) (shown : Shown) : Type 0 where
+  pub grown : shown.ring ≡ with_one ring e number
+  pub longer : shown.log ≡ store.log ++ e ∷ []
+  pub owned : shown.owners ≡ store.owners ++ number ∷ []
+
+-- nothing in the ring, and all else as it was
+pub record ShowsMoved {D : Type 0} (store : PlainState D) (ring : RingState) (shown : Shown) : Type 0 where
+  pub cleared : shown.ring ≡ without_all ring
+  pub same : shown.log ≡ store.log
+  pub same_owners : shown.owners ≡ store.owners
+
 module _ {D : Type 0} (device : Device D) (store : PlainState D) (ring : RingState) (shards : List ShardState) (plain : IsPlain device store ring shards) where
   -- one entry more
-  pub plain_push : (number : ℕ) (e : Edge) (new_ring : RingState) (log : List Edge) (owners : List ℕ) (seats : List Seat) → HasSession store number →
-      1 ≤ (seat_at store.seats number).quota → IsWithin store.origin.vertices e → new_ring ≡ with_one ring e number → log ≡ store.log ++ e ∷ [] →
-      owners ≡ store.owners ++ number ∷ [] → seats ≡ (pushed store number e).seats →
-      IsPlain device (record store { log = log; owners = owners; room = new_ring.room; seats = seats }) new_ring shards
-  plain_push number e new_ring log owners seats session some ids grown longer owned spent =
+  pub plain_push : (number : ℕ) (e : Edge) (shown : Shown) (seats : List Seat) → HasSession store number → 1 ≤ (seat_at store.seats number).quota →
+      IsWithin store.origin.vertices e → ShowsPut store ring number e shown → seats ≡ (pushed store number e).seats →
+      IsPlain device (record store { log = shown.log; owners = shown.owners; room = shown.ring.room; seats = seats }) shown.ring shards
+  plain_push number e shown seats session some ids put spent =
       let next : PlainState D = pushed store number e in
       let is : IsPlain device next (with_one ring e number) shards = record {
         arranged = arranged_push store ring shards plain.arranged number e session some ids;
@@ -43,7 +60,7 @@ module _ {D : Type 0} (device : Device D) (store : PlainState D) (ring : RingSta
         moved_durable = plain.moved_durable;
       } in
       let roomy = subst (λ (n : ℕ). IsPlain device (record next { room = n }) (with_one ring e number) shards) (sym plain.arranged.pending.room) is in
-      rw (grown, longer, owned, spent) roomy
+      rw (put.grown, put.longer, put.owned, spent) roomy
 
   -- another seat of a session
   pub plain_seat : (number : ℕ) (seat : Seat) (seats : List Seat) → HasSession store number → MaySit store (seat_at store.seats number) seat →
@@ -120,11 +137,11 @@ module _ {D : Type 0} (device : Device D) (store : PlainState D) (ring : RingSta
   }
 
   -- all entries were moved out of the ring
-  pub plain_moved : (new_ring : RingState) (new : List ShardState) (cuts : List ℕ) (log : List Edge) (owners : List ℕ) (head : ℕ) →
+  pub plain_moved : (shown : Shown) (new : List ShardState) (cuts : List ℕ) (head : ℕ) →
       HaveParts store.origin.vertices (length shards) store.moved (all_views store.seats) store.log new → AllHaveCome head new → head ≡ length store.log →
-      journal_front store.journal ≡ length store.log → new_ring ≡ without_all ring → log ≡ store.log → owners ≡ store.owners →
-      IsPlain device (record store { log = log; owners = owners; moved = head; room = new_ring.room; cuts = cuts }) new_ring new
-  plain_moved new_ring new cuts log owners head parts come whole durable cleared same same_owners =
+      journal_front store.journal ≡ length store.log → ShowsMoved store ring shown →
+      IsPlain device (record store { log = shown.log; owners = shown.owners; moved = head; room = shown.ring.room; cuts = cuts }) shown.ring new
+  plain_moved shown new cuts head parts come whole durable moved =
       let next : PlainState D = record store { moved = head; cuts = cuts } in
       let is : IsPlain device next (without_all ring) new = record {
         arranged = arranged_moved store ring shards plain.arranged cuts new head parts come whole;
@@ -132,7 +149,7 @@ module _ {D : Type 0} (device : Device D) (store : PlainState D) (ring : RingSta
         moved_durable = omega (arith, whole, durable);
       } in
       let roomy = subst (λ (n : ℕ). IsPlain device (record next { room = n }) (without_all ring) new) (sym plain.arranged.pending.room) is in
-      rw (cleared, same, same_owners) roomy
+      rw (moved.cleared, moved.same, moved.same_owners) roomy
 
   -- where a fault was met, the count of faults rose
   pub tells_risen : TellsRisen device store

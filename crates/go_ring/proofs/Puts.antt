@@ -102,11 +102,11 @@ module _ {P : Type 0} where
         })
 
     -- or held: then it is still owed
-    pub held_remains : (state_of : P → PartState) (f : Frame) (slots : ℕ) (claim again : Claim) (released : ℕ) (me now : Me S (SeatView P))
-        → IsHeld state_of f slots claim me again released now → Remains me.0 now.0
-    held_remains state_of f slots claim again released me now held = fronts_remain state_of f slots me now held.archived held.durable held.fronts
+    pub held_remains : (state_of : P → PartState) (f : Frame) (slots : ℕ) (claim : Claim) (released : ℕ) (me now : Me S (SeatView P))
+        → IsHeld state_of f slots claim me released now → Remains me.0 now.0
+    held_remains state_of f slots claim released me now held = fronts_remain state_of f slots me now held.archived held.durable held.fronts
 
-    pub held_owed : (state_of : P → PartState) (f : Frame) (slots : ℕ) (claim again : Claim) (released : ℕ) (me now : Me S (SeatView P))
-        → IsHeld state_of f slots claim me again released now → now.0.core.pending ≡ me.0.core.pending
-    held_owed state_of f slots claim again released me now held =
+    pub held_owed : (state_of : P → PartState) (f : Frame) (slots : ℕ) (claim : Claim) (released : ℕ) (me now : Me S (SeatView P))
+        → IsHeld state_of f slots claim me released now → now.0.core.pending ≡ me.0.core.pending
+    held_owed state_of f slots claim released me now held =
         ap (λ z. z.0.core.pending) held.fronts.second.becomes ∙ ap (λ z. z.0.core.pending) held.fronts.first.becomes

@@ -66,14 +66,13 @@ module _ {P S : Type 0} (state_of : P → PartState) (f : Frame) (slots : ℕ) (
     pub becomes : now ≡ (for_each with_stored (entries_in claim) between.0, between.1)
 
   -- by these loads its last one wasn't, up to what is released then
-  pub record IsHeld (again : Claim) (released : ℕ) (now : Me S (SeatView P)) : Type 0 where
+  pub record IsHeld (released : ℕ) (now : Me S (SeatView P)) : Type 0 where
     pub archived : ℕ
     pub durable : ℕ
     pub fronts : LoadsFronts state_of f slots me archived durable now
     pub lesser : released ≡ min archived durable
     pub taken : released + f.slots < claim.first + claim.len
-    pub same : again ≡ claim
 
   abbrev pub FillIs : Fill → Me S (SeatView P) → Type 0
   FillIs (Done position) now = (position ≡ claim.first) × Fills now
-  FillIs (Held again released) now = IsHeld again released now
+  FillIs (Held again released) now = (again ≡ claim) × IsHeld released now

@@ -71,17 +71,21 @@ module _ {P : Type 0} where
         IsWordOf slots d.about.vertices now.told.seen (record { at = p; word = slice_index buf (p % slots); sure = true })
 
   module _ {S : Type 0} where
-    -- a copy begins by loads of the length, of the archived front right after it, of the length again, and of the durable front
+    -- the length was loaded, and the archived front right after it
+    pub record LoadsMark (state_of : P → PartState) (f : Frame) (words : ℕ) (me : Me S (SeatView P)) (archived : ℕ) (now : Me S (SeatView P)) : Type 0 where
+      pub head : ℕ
+      pub between : Me S (SeatView P)
+      pub length_is : LoadsHead f (step words 0 0 0 none) me head between
+      pub archived_is : LoadsArchived state_of f (step words 1 0 0 none) between archived now
+
+    -- a copy begins by these two loads, one of the length again, and one of the durable front
     pub record FirstLoads (state_of : P → PartState) (f : Frame) (words : ℕ) (me : Me S (SeatView P)) (archived durable : ℕ) (now : Me S (SeatView P))
         : Type 0 where
-      pub head : ℕ
-      pub after_head : Me S (SeatView P)
-      pub after_archived : Me S (SeatView P)
+      pub after_mark : Me S (SeatView P)
       pub again : ℕ
       pub after_again : Me S (SeatView P)
-      pub length_is : LoadsHead f (step words 0 0 0 none) me head after_head
-      pub archived_is : LoadsArchived state_of f (step words 1 0 0 none) after_head archived after_archived
-      pub still : LoadsHead f (step words 0 0 0 none) after_archived again after_again
+      pub mark : LoadsMark state_of f words me archived after_mark
+      pub still : LoadsHead f (step words 0 0 0 none) after_mark again after_again
       pub durable_is : LoadsDurable f (step words 2 0 0 none) after_again durable now
 
     -- by which so much was released, and from where it went on

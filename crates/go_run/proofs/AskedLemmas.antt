@@ -50,9 +50,11 @@ module _ (words others : List (List ℕ)) (word : List ℕ) (command : words ≡
   asks_from : (kept : Kept) (asked : Asked) → Collects nothing_kept others kept → Settles word kept asked → Asks words asked
   asks_from kept asked collects settles = record {
     parts = collects.parts;
-    others = others;
-    command = command ∙ ap (λ (w : List ℕ). w ∷ others) (sym settles.commanded);
-    written = collects.written;
+    written = record {
+      others = others;
+      begins = command ∙ ap (λ (w : List ℕ). w ∷ others) (sym settles.commanded);
+      written = collects.written;
+    };
     work = subst (λ (f : List (List ℕ)). IsWork asked.work f (values_in settings.Edges collects.parts)
         (values_in settings.Seed collects.parts)) collects.gathers.files
         (subst (λ (e : List (List ℕ)). IsWork asked.work kept.files e (values_in settings.Seed collects.parts)) collects.gathers.edges
@@ -66,8 +68,8 @@ module _ (words others : List (List ℕ)) (word : List ℕ) (command : words ≡
   -- what is asked is settled by what its parts lead to
   settled_by : (asked : Asked) → Asks words asked → (kept : Kept) × Collects nothing_kept others kept × Settles word kept asked
   settled_by asked asks =
-      let one : command_of asked.work ∷ asks.others ≡ word ∷ others = sym asks.command ∙ command in
-      let same : asks.others ≡ others = (let h = one in cc) in
+      let one : command_of asked.work ∷ asks.written.others ≡ word ∷ others = sym asks.written.begins ∙ command in
+      let same : asks.written.others ≡ others = (let h = one in cc) in
       let commanded : command_of asked.work ≡ word = (let h = one in cc) in
       let vertices = one_value (IsNumber 1 VERTEX_LIMIT) VERTICES asked.setup.vertices (values_in settings.Vertices asks.parts) asks.vertices in
       let ring = one_value IsRing RING asked.setup.ring (values_in settings.Ring asks.parts) asks.ring in
@@ -86,7 +88,7 @@ module _ (words others : List (List ℕ)) (word : List ℕ) (command : words ≡
         },
         record {
           parts = asks.parts;
-          written = subst (λ (w : List (List ℕ)). Writes asks.parts w) same asks.written;
+          written = subst (λ (w : List (List ℕ)). Writes asks.parts w) same asks.written.written;
           gathers = record {
             vertices = vertices.1;
             ring = ring.1;
@@ -142,7 +144,7 @@ asked_no_verb words others word begin none = record {
   asks = tt;
   alone = λ other asks. absurd (
       let verb = verb_for other.work in
-      let same : command_of other.work ∷ asks.others ≡ word ∷ others = sym asks.command ∙ begin in
+      let same : command_of other.work ∷ asks.written.others ≡ word ∷ others = sym asks.written.begins ∙ begin in
       let first : command_of other.work ≡ word = (let h = same in cc) in
       none verb.0 (sym first ∙ verb.1)
       );

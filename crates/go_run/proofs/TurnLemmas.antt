@@ -26,7 +26,8 @@ use Rattle.go_run.specs.Reading.{WaitsForCertain}
 use Rattle.go_run.specs.Turns.{Aim, aim_of, total_put, commands_left, HasDone, IsQuiet}
 use Rattle.go_run.proofs.BesideLemmas.{beside_keeps_can, standing_beside}
 use Rattle.go_run.proofs.RoundLemmas.{puts_certain, all_done}
-use Rattle.go_run.proofs.TurnParts.{waits_on, go_same, go_further, get_set, set_aims, aim_kept, IsGoing, IsResting, same_parts, put_same, can_after, can_halt, all_owned, sum_numbered, aims_long, rests, all_there}
+use Rattle.go_run.proofs.TurnParts.{waits_on, go_same, go_further, get_set, set_aims, aim_kept, IsGoing, IsResting, same_parts, put_same}
+use Rattle.go_run.proofs.TurnParts.{can_after, can_halt, all_owned, sum_numbered, aims_long, rests, all_there}
 
 module _ {D : Type 0} (device : Device D) (loads : List (List Edge)) where
   -- the log of a store has what was there at opening and what its sessions put

@@ -129,12 +129,16 @@ IsWork (driving names) files edges seeds = (files ≡ names) × (1 ≤ length fi
 IsWork (generating count seed) files edges seeds =
     (files ≡ []) × IsGiven (IsNumber 1 EDGES) edges count × IsGiven (IsNumber 0 SEED_LIMIT) seeds seed
 
+-- behind a command the words write parts
+pub record WritesBehind (command : List ℕ) (parts : List Part) (words : List (List ℕ)) : Type 0 where
+  pub others : List (List ℕ)
+  pub begins : words ≡ command ∷ others
+  pub written : Writes parts others
+
 -- the words ask for this: behind the command they write parts, in any order, that choose no setting twice, and each thing is what is chosen or the usual one
 pub record Asks (words : List (List ℕ)) (asked : Asked) : Type 0 where
   pub parts : List Part
-  pub others : List (List ℕ)
-  pub command : words ≡ command_of asked.work ∷ others
-  pub written : Writes parts others
+  pub written : WritesBehind (command_of asked.work) parts words
   pub work : IsWork asked.work (files_in parts) (values_in settings.Edges parts) (values_in settings.Seed parts)
   pub vertices : IsChosen (IsNumber 1 VERTEX_LIMIT) VERTICES (values_in settings.Vertices parts) asked.setup.vertices
   pub ring : IsChosen IsRing RING (values_in settings.Ring parts) asked.setup.ring

@@ -184,9 +184,11 @@ updated_below n world walk place most row reply cut is rests =
         within = let least = min-le_right is.front n in let long = length-take n world.log in let all = min-eq_left cut.there in omega arith;
         above_own = above_both n world walk is.front cut is.fresh.above_own;
       };
-      ends = ends_kept is.from most is.front is.to n is.ends kept;
-      so_many = is.so_many;
-      shown = λ told. is.shown told ∙ ap (λ (l : List Edge). drop is.from l) (sym (take-take is.to n world.log kept));
+      stretch = record {
+        ends = ends_kept is.from most is.front is.to n is.stretch.ends kept;
+        so_many = is.stretch.so_many;
+        shown = λ told. is.stretch.shown told ∙ ap (λ (l : List Edge). drop is.from l) (sym (take-take is.to n world.log kept));
+      };
       is = is.is;
     }
 

@@ -108,12 +108,14 @@ updated_grows small large walk place most reply grows inside is = record {
   list = is.list;
   from_cursor = is.from_cursor;
   fresh = fresh_grows small large walk is.front grows inside is.fresh;
-  ends = is.ends;
-  so_many = is.so_many;
-  shown = λ told.
-      let within : is.to ≤ length small.log =
-      let most_is = min-le_right (is.from + most) is.front in let ends = is.ends in let end = is.fresh.within in omega arith in
-      is.shown (sym grows.same.told ∙ told) ∙ ap (λ (l : List Edge). drop is.from l) (sym (same_first small large is.to grows within));
+  stretch = record {
+    ends = is.stretch.ends;
+    so_many = is.stretch.so_many;
+    shown = λ told.
+        let within : is.to ≤ length small.log =
+        let most_is = min-le_right (is.from + most) is.front in let ends = is.stretch.ends in let end = is.fresh.within in omega arith in
+        is.stretch.shown (sym grows.same.told ∙ told) ∙ ap (λ (l : List Edge). drop is.from l) (sym (same_first small large is.to grows within));
+  };
   is = is.is;
 }
 

@@ -232,9 +232,7 @@ updated_leads place most reply before now walk at is =
         list = is.list;
         from_cursor = walk_holds walk before place (held.Stream is.span.from) at up.from_cursor;
         fresh = fresh before now walk up.front at up.holds.puts.same_own up.front_is;
-        ends = up.ends;
-        so_many = up.so_many;
-        shown = up.shown;
+        stretch = record { ends = up.ends; so_many = up.so_many; shown = up.shown };
         is = is.is;
       };
       follows = rw is.is (placed_follows place is.span.to (held.Stream is.span.to) before now up.holds

@@ -200,7 +200,7 @@ row_within world walk entries (streamed place) reply kind inside is =
 row_within world walk entries (updated place most) reply kind inside is =
     subst (λ (r : Reply). IsWithin world walk (effect_of walk.first r)) (sym is.is)
     (leaves_within world walk place (held.Stream is.to) is.to inside
-    (let most = min-le_right (is.from + most) is.front in let ends = is.ends in let within = is.fresh.within in omega arith) (omega arith))
+    (let most = min-le_right (is.from + most) is.front in let ends = is.stretch.ends in let within = is.fresh.within in omega arith) (omega arith))
 row_within world walk entries (reached asked) reply kind inside is =
     subst (λ (r : Reply). IsWithin world walk (effect_of walk.first r)) (sym is.0)
     (record { used = let used = inside.used in omega arith; seen = is.1; placed = tt })

@@ -96,9 +96,9 @@ update_gives world walk k from (asks.Update place most) entries reply told at up
     let there : k == place ≡ true = grind (arith, nat_tests, update) in
     record {
       to = is.to;
-      given = ap (given_at k) is.is ∙ rw here (is.shown told ∙ ap (λ (n : ℕ). drop n (take is.to world.log)) starts);
+      given = ap (given_at k) is.is ∙ rw here (is.stretch.shown told ∙ ap (λ (n : ℕ). drop n (take is.to world.log)) starts);
       stands = subst (λ (r : Reply). (after walk r).place_at k ≡ held.Stream is.to) (sym is.is) (rw there refl);
-      up = omega (arith, starts, is.so_many);
+      up = omega (arith, starts, is.stretch.so_many);
     }
 update_gives world walk k from (asks.Add src dst) entries reply told at update is = absurd update
 update_gives world walk k from (asks.Del src dst) entries reply told at update is = absurd update

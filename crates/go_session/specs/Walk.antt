@@ -119,7 +119,13 @@ ShowsFresh world walk show reply = (n : ℕ) × (reply ≡ show n) × IsFresh wo
 abbrev pub IsRead : World → Walk → ℕ → Command → Reply → Type 0
 IsRead world walk place command reply = (n : ℕ) × (walk.place_at place ≡ held.View n) × IsValue world.vertices (take n world.log) command reply
 
--- the entries from the stream's cursor on are shown, up to a fresh front or so many; they are the log's where the log file is told
+-- entries from a cursor on, up to a front or so many; they are the log's where the log file is told
+pub record IsStretch (world : World) (most front from to : ℕ) (list : List Edge) : Type 0 where
+  pub ends : to ≡ min (from + most) front
+  pub so_many : from + length list ≡ to
+  pub shown : world.told ≡ true → list ≡ drop from (take to world.log)
+
+-- the entries from the stream's cursor on are shown, up to a fresh front or so many
 pub record IsUpdated (world : World) (walk : Walk) (place most : ℕ) (reply : Reply) : Type 0 where
   pub front : ℕ
   pub from : ℕ
@@ -127,9 +133,7 @@ pub record IsUpdated (world : World) (walk : Walk) (place most : ℕ) (reply : R
   pub list : List Edge
   pub from_cursor : walk.place_at place ≡ held.Stream from
   pub fresh : IsFresh world walk front
-  pub ends : to ≡ min (from + most) front
-  pub so_many : from + length list ≡ to
-  pub shown : world.told ≡ true → list ≡ drop from (take to world.log)
+  pub stretch : IsStretch world most front from to list
   pub is : reply ≡ tells.Updated place from to list
 
 -- the log is so long behind the old one

@@ -18,4 +18,5 @@ pub count-requires-clause-full : goal.count-requires-clause-full
 count-requires-clause-full g c =
     let shown = g.G.Graph.shows c.args.g.now in
     subst (λ (l : List (Option ℕ)). IsFull l) (sym c.deref.ensures.value)
-    (AreLevels-full shown.log shown.size c.args.r c.find_levels.new.out.items c.vertices-vertices.ensures.drawn.ids c.requires.root c.in_ok-find_levels.ensures.exact)
+    (AreLevels-full shown.log shown.size c.args.r c.find_levels.new.out.items c.vertices-vertices.ensures.drawn.ids c.requires.root
+    c.in_ok-find_levels.ensures.exact)

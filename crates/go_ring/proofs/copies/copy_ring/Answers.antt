@@ -280,13 +280,16 @@ returns-clause-copies g c =
         begun = durable.new.seat.me;
         loads =
             record {
-              head = first.result;
-              after_head = first.new.seat.me;
-              after_archived = archived.new.seat.me;
+              after_mark = archived.new.seat.me;
               again = again.result;
               after_again = again.new.seat.me;
-              length_is = first.ensures.tells;
-              archived_is = archived.ensures.tells;
+              mark =
+                  record {
+                    head = first.result;
+                    between = first.new.seat.me;
+                    length_is = first.ensures.tells;
+                    archived_is = archived.ensures.tells;
+                  };
               still = again.ensures.tells;
               durable_is = durable.ensures.tells;
             };

@@ -18,9 +18,8 @@ fill_in_time-requires-clause-owed c =
     let claimed = c.claim-claim.ensures in
     let ring = c.args.ring.now.table.shared in
     let held = c.in-Held.ensures.fills in
-    owed_still c.claim-claim.result c.in-Held.claim c.claim-claim.new.seat.me.0.core.pending c.fill.new.seat.me.0.core.pending held.same
-    (held_owed (λ s. s) (frame_of ring.key) ring.table_id.slots c.claim-claim.result c.in-Held.claim c.in-Held.released c.claim-claim.new.seat.me
-    c.fill.new.seat.me held)
+    owed_still c.claim-claim.result c.in-Held.claim c.claim-claim.new.seat.me.0.core.pending c.fill.new.seat.me.0.core.pending held.0
+    (held_owed (λ s. s) (frame_of ring.key) ring.table_id.slots c.claim-claim.result c.in-Held.released c.claim-claim.new.seat.me c.fill.new.seat.me held.1)
     (claim_owed c.claim-claim.result (c.edge_to.result ∷ []) c.args.seat.now.me.0.core.pending c.claim-claim.new.seat.me.0.core.pending claimed.edges
     (ap (λ z. z.0.core.pending) claimed.tells.0))
 
@@ -34,5 +33,5 @@ pub fill_in_time-requires-clause-storable : goal.fill_in_time-requires-clause-st
 fill_in_time-requires-clause-storable c =
     let src = ap (λ e. e.src) c.edge_to.ensures in
     let dst = ap (λ e. e.dst) c.edge_to.ensures in
-    subst (λ (k : Claim). All IsStorable (take k.len k.edges)) (sym c.in-Held.ensures.fills.same)
+    subst (λ (k : Claim). All IsStorable (take k.len k.edges)) (sym c.in-Held.ensures.fills.0)
     (claim_storable c.claim-claim.result (c.edge_to.result ∷ []) c.claim-claim.ensures.edges (one_storable c.edge_to.result (omega arith) (omega arith)))

@@ -51,11 +51,15 @@ invariant_of-self-2 g c =
     let more = map (λ one. one.value) c.push_reserved.new.self.items in
     let old = map (λ one. one.value) c.self.inside.past.items in (
       c.self.invariant.0,
-      plain_moved g.D.Disk.device _ ring shards plain c.clear.new.self new (map (λ shard. shard.cut) new)
-          (log_of c.self.inside.found.value.items more c.clear.new.self) (owners_of more c.clear.new.self) c.head-head.result
-          (parts g (goal.at.invariant_of-self-2 g c).After-catch_up) come whole durable c.clear.ensures
-          (log_kept c.self.inside.found.value.items old more ring c.clear.new.self past c.clear.ensures)
-          (owners_kept old more ring c.clear.new.self past c.clear.ensures),
+      plain_moved g.D.Disk.device _ ring shards plain (record {
+        ring = c.clear.new.self;
+        log = log_of c.self.inside.found.value.items more c.clear.new.self;
+        owners = owners_of more c.clear.new.self;
+      }) new (map (λ shard. shard.cut) new) c.head-head.result (parts g (goal.at.invariant_of-self-2 g c).After-catch_up) come whole durable (record {
+        cleared = c.clear.ensures;
+        same = log_kept c.self.inside.found.value.items old more ring c.clear.new.self past c.clear.ensures;
+        same_owners = owners_kept old more ring c.clear.new.self past c.clear.ensures;
+      }),
     )
 
 pub returns-clause-ok : goal.returns-clause-ok

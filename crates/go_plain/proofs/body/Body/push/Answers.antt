@@ -42,10 +42,15 @@ invariant_of-self g c =
     let some = subst (λ (s : PlainState _). 1 ≤ (seat_at s.seats c.args.number).quota) (sym c.self.view_is) c.requires.may.quota in
     let session = subst (λ (s : PlainState _). HasSession s c.args.number) (sym c.self.view_is) c.requires.session in (
       c.self.invariant.0,
-      plain_push g.D.Disk.device _ c.self.inside.ring c.self.inside.shards.items c.self.invariant.1 c.args.number c.args.edge c.push.new.self
-          (log_of c.self.inside.found.value.items past c.push.new.self) (owners_of past c.push.new.self) c.spend.new.seats.items session some ids c.push.ensures
-          (rw c.push.ensures (log_pushed c.self.inside.found.value.items past c.self.inside.ring c.args.edge c.args.number))
-          (rw c.push.ensures (owners_pushed past c.self.inside.ring c.args.edge c.args.number)) (spent g (goal.at.invariant_of-self g c).After-spend),
+      plain_push g.D.Disk.device _ c.self.inside.ring c.self.inside.shards.items c.self.invariant.1 c.args.number c.args.edge (record {
+        ring = c.push.new.self;
+        log = log_of c.self.inside.found.value.items past c.push.new.self;
+        owners = owners_of past c.push.new.self;
+      }) c.spend.new.seats.items session some ids (record {
+        grown = c.push.ensures;
+        longer = rw c.push.ensures (log_pushed c.self.inside.found.value.items past c.self.inside.ring c.args.edge c.args.number);
+        owned = rw c.push.ensures (owners_pushed past c.self.inside.ring c.args.edge c.args.number);
+      }) (spent g (goal.at.invariant_of-self g c).After-spend),
     )
 
 pub returns-clause-put : goal.returns-clause-put

@@ -23,7 +23,8 @@ returns-clause-starts g c =
     let sound = c.check.ensures.sound c.args.number c.requires.session in
     subst (λ (s : PlainState _). IsStarted c.args.place c.head-cursor.result (standing_of g.D.Disk.device old c.args.number)
     (standing_of g.D.Disk.device s c.args.number))
-    (sym (c.keep.ensures.kept)) (started g.D.Disk.device old c.args.number c.args.place c.head-cursor.result c.requires.session sound c.head-cursor.ensures.exact)
+    (sym (c.keep.ensures.kept))
+    (started g.D.Disk.device old c.args.number c.args.place c.head-cursor.result c.requires.session sound c.head-cursor.ensures.exact)
 
 pub returns-clause-sound : goal.returns-clause-sound
 returns-clause-sound g c =

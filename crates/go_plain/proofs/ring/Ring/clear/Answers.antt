@@ -12,12 +12,14 @@ invariant_of-self c =
     else 0) = λ s. subst (λ (l : List Edge). get_or c.forget.new.latest.items s 0
     ≡ (if raw l s == 0 then get_or c.self.inside.latest.items s 0 else 0)) c.deref.ensures.value (c.forget.ensures.gone s) in
     kept_clear c.self.inside _ c.self.invariant (record {
-      entries = c.clear.ensures.items;
-      owners = c.clear-2.ensures.items;
+      bare = record {
+        entries = c.clear.ensures.items;
+        owners = c.clear-2.ensures.items;
+        prior = c.clear-3.ensures.items;
+        skips = c.clear-4.ensures.items;
+      };
       latest = c.forget.ensures.all;
       gone = gone;
-      prior = c.clear-3.ensures.items;
-      skips = c.clear-4.ensures.items;
       room = refl;
       mark = refl;
       memory = record {

@@ -46,7 +46,8 @@ taken c =
       later = subst (λ (s : ShardState). s.front < c.args.front) (sym c.self.view_is) c.requires.later;
       equal = c.take_batch.auto.slots ∙ ap length same;
       took = subst (λ (n : ℕ). TookParts n c.args.front c.args.batch.now old.lanes c.take_batch.new.slots) c.new-shards.ensures
-          (subst (λ (l : List Lane). TookParts c.new-shards.result c.args.front c.args.batch.now l c.take_batch.new.slots) same c.in_ok-take_batch.ensures.ok.lanes);
+          (subst (λ (l : List Lane). TookParts c.new-shards.result c.args.front c.args.batch.now l c.take_batch.new.slots) same
+          c.in_ok-take_batch.ensures.ok.lanes);
     }
 
 -- the lanes that were lent come back whole
