@@ -12,7 +12,7 @@ use Rattle.go_ring.proofs.ordered.load_in_turn_as.Goals as goal
 
 pub load-requires : goal.load-requires
 load-requires g c =
-    let m = meaning g.T.Part.state_of g.T.Part.stands_for g.T.Part.fits g.T.Part.keeps g.T.Part.is_spent g.T.Part.mark_of g.T.Part.recovers in
+    let m = meaning g.T.Part in
     let ring = c.args.ring.now in
     let t = ring.table.shared in
     let seat = c.args.seat.now in
