@@ -1,0 +1,2 @@
+-- The lemmas on turns.
+pub mod Handing

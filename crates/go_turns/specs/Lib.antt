@@ -1,0 +1,3 @@
+-- The definitions of turns.
+pub mod Holding
+pub mod Lending
