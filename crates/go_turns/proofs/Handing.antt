@@ -1,5 +1,5 @@
 -- For callers too: what is told of a part in hand, and what a seat has in hand while it takes other steps.
-use Rattle.std.proofs.Common.{◌≡◌, ℕ, List, ◌∷◌, sym, refl, ap, ◌∙◌, subst}
+use Rattle.std.proofs.Common.{◌≡◌, ℕ, List, ◌∷◌, sym, refl, ap, ◌∙◌, ⊎_elim, arith, subst}
 use Rattle.std.specs.Prelude.{Some, None, Option as Maybe}
 use Rattle.std.proofs.lemmas.Option.{same_Some}
 use Rattle.atomic_table.specs.Table.{Me, rest}
@@ -10,7 +10,7 @@ use Rattle.go_rule.specs.Meaning.{Meaning}
 use Rattle.go_rule.specs.Views.{with_unmoved}
 use Rattle.go_rule.specs.Turns.{taking, giving, IsTaken, TakesPart, CanGive, IsInSlot, HasPart, GivesPart}
 use Rattle.go_rule.proofs.TurnCalls.{headed, value_is, given_is}
-use Rattle.go_turns.specs.Holding.{Holds, Takes, MayGive, Gives}
+use Rattle.go_turns.specs.Holding.{Holds, Takes, Tries, MayGive, Gives}
 
 module _ {P : Type 0} where
   -- a step that leaves the notes of parts and the slots in hand as they are leaves the part in hand
@@ -41,6 +41,23 @@ module _ {P : Type 0} (m : Meaning P) where
     -- and its view has noted this one
     pub view_is : now.0 ≡ taking place part me.0
     view_is = ap (λ z. z.0) t.turn.becomes ∙ ap (λ p. taking place p me.0) part_is
+
+    -- after steps that left that as it is, the part may be given back as another where this is lawful by now
+    pub may_give : (new : P) (then : Me (Maybe P) (SeatView P)) → then.0.stake.notes ≡ now.0.stake.notes → then.1 ≡ now.1
+        → CanGive m f then.0 place part new → MayGive m f place new then
+    may_give new then notes hand can =
+        record {
+          old = part;
+          older = me.0.stake.notes;
+          slots = me.1;
+          holds = holds_on place part me.0.stake.notes me.1 now then notes hand t.holds;
+          can = can;
+        }
+
+  -- where the turn was found taken, the seat was told nothing
+  pub refused : (f : Frame) (slots place : ℕ) (me : Me (Maybe P) (SeatView P)) (now : Me (Maybe P) (SeatView P)) → Tries m f slots place me None now
+      → now ≡ (with_unmoved me.0, me.1)
+  refused f slots place me now tries = ⊎_elim (λ free. let one = free.0 in absurd (omega arith)) (λ held. held.1) tries
 
   -- a part that came with its turn, and was taken out of its slot
   pub taken_out : (f : Frame) (place : ℕ) (me between now : Me (Maybe P) (SeatView P)) (out : Maybe P) (part : P) → TakesPart m f place me between

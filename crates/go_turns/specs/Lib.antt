@@ -1,3 +1,4 @@
 -- The definitions of turns.
 pub mod Holding
 pub mod Lending
+pub mod Samples

@@ -18,3 +18,6 @@ pub use hold::Hold;
 pub use key::TurnKey;
 pub use lifted::Lifted;
 pub use taking::{take, try_take};
+
+#[cfg(test)]
+mod tests;
