@@ -27,7 +27,9 @@ module _ {P : Type 0} where
     pub reach : to ≤ reach_of d.core
     pub seen : to ≤ length d.told.seen
 
-  -- a seat's shares, and what it owes, are as they were
+  -- a seat's shares, what it owes, what it was told and how far it may bring shards on are as they were
   pub record Stays (d e : SeatView P) : Type 0 where
     pub lot : e.share.lot ≡ d.share.lot
     pub pending : e.core.pending ≡ d.core.pending
+    pub told : e.told ≡ d.told
+    pub reach : reach_of e.core ≡ reach_of d.core

@@ -21,3 +21,7 @@ pub use taking::{take, try_take};
 
 #[cfg(test)]
 mod tests;
+#[cfg(test)]
+mod thread_tests;
+#[cfg(test)]
+mod wait_tests;

@@ -1,8 +1,10 @@
 // Three seats over a ring of three shards: a part is in one hand at a time, and comes back as it was given.
-ghost use Rattle.std.specs.Prelude.{◌≡◌, ◌+◌, ◌^◌, ◌<◌, ◌≤◌, IfOk, true, []};
+ghost use Rattle.std.specs.Prelude.{◌≡◌, ◌+◌, ◌^◌, ◌<◌, ◌≤◌, IfOk, IfSome, true, []};
 ghost use Rattle.go_rule.specs.Steps.{IsAt};
 ghost use Rattle.go_rule.specs.Samples.{IsFree, IsArchiver};
-ghost use Rattle.go_turns.specs.Samples.{MayBring};
+ghost use Rattle.go_rule.specs.Views.{frame_of};
+ghost use Rattle.go_turns.specs.Holding.{MayGive};
+ghost use Rattle.go_turns.specs.Samples.{meaning_by, MayBring};
 
 use crate::{Hold, Lifted, give, try_take};
 use go_core::{Entry, Part, PartState, Pins, ring_words};
@@ -24,7 +26,7 @@ pub(crate) fn part(alloc: Global) -> PartState
 }
 
 // A ring of eight slots with three shards and the file, from position 0 on.
-fn opened(alloc: Global) -> Result<Opened<PartState>, AllocError>
+pub(crate) fn opened(alloc: Global) -> Result<Opened<PartState>, AllocError>
     ensures at { IfOk result (λ o. IsAt o.ring.table.shared.table_id o.seat.table_id o.seat.me.0) }
     ensures shards { IfOk result (λ o. o.ring.shards ≡ 3) }
     ensures free { IfOk result (λ o. IsFree o.seat.me) }
@@ -88,10 +90,10 @@ pub(crate) fn put_and_take<T: Part>(ring: &Ring<T>, seat: &mut Seat<T>, at: u64)
     matched(word, at, ring.slots)
 }
 
-// Takes a shard where its turn is free, and gives it back as it was: how far it reached.
+// Takes a part where its turn is free, and gives it back as it was: how far it reached.
 fn look(ring: &Ring<PartState>, seat: &mut Seat<PartState>, place: u32) -> Option<u64>
     requires at { IsAt ring.now.table.shared.table_id seat.old.table_id seat.old.me.0 }
-    requires shard { place < ring.now.shards }
+    requires within { place ≤ ring.now.shards }
     ensures at { IsAt ring.now.table.shared.table_id seat.new.table_id seat.new.me.0 }
     ensures hand { (seat.new.me.0.stake.notes ≡ seat.old.me.0.stake.notes) × (seat.new.me.1 ≡ seat.old.me.1) }
 {
@@ -101,7 +103,26 @@ fn look(ring: &Ring<PartState>, seat: &mut Seat<PartState>, place: u32) -> Optio
     Some(front)
 }
 
-// Brings a shard on to position 1 where its turn is free, while another seat looks for it: what that finds.
+// Takes a shard where its turn is free, and brings it on to position 1.
+pub(crate) fn take_on(
+    ring: &Ring<PartState>,
+    seat: &mut Seat<PartState>,
+    place: u32,
+) -> Option<Hold<PartState>>
+    requires at { IsAt ring.now.table.shared.table_id seat.old.table_id seat.old.me.0 }
+    requires may { MayBring 1 seat.old.me.0 }
+    requires shard { place < ring.now.shards }
+    ensures at { IsAt ring.now.table.shared.table_id seat.new.table_id seat.new.me.0 }
+    ensures place { IfSome result (λ hold. hold.key.place ≡ place) }
+    ensures may { IfSome result (λ hold. MayGive (meaning_by (λ s. s)) (frame_of ring.now.table.shared.key) place hold.part seat.new.me) }
+{
+    let mut hold = try_take(ring, seat, place)?;
+    let part = hold.part_mut();
+    part.front = part.front.max(1);
+    Some(hold)
+}
+
+// Brings a shard on where its turn is free, while another seat looks for it: what that finds.
 fn bring_on_beside(
     ring: &Ring<PartState>,
     seat: &mut Seat<PartState>,
@@ -115,15 +136,13 @@ fn bring_on_beside(
     ensures at { IsAt ring.now.table.shared.table_id seat.new.table_id seat.new.me.0 }
     ensures other_at { IsAt ring.now.table.shared.table_id other.new.table_id other.new.me.0 }
 {
-    let mut hold = try_take(ring, seat, place)?;
+    let hold = take_on(ring, seat, place)?;
     let found = look(ring, other, place);
-    let part = hold.part_mut();
-    part.front = part.front.max(1);
     give(ring, seat, hold);
     Some(found)
 }
 
-// Takes two shards where their turns are free, looks at the log's length with both in hand, and gives them back as they were, the first
+// Takes two parts where their turns are free, looks at the log's length with both in hand, and gives them back as they were, the first
 // one last: how far they reached.
 fn look_at_both(
     ring: &Ring<PartState>,
@@ -132,7 +151,7 @@ fn look_at_both(
     two: u32,
 ) -> Option<(u64, u64)>
     requires at { IsAt ring.now.table.shared.table_id seat.old.table_id seat.old.me.0 }
-    requires shards { (one < ring.now.shards) × (two < ring.now.shards) }
+    requires within { (one ≤ ring.now.shards) × (two ≤ ring.now.shards) }
     ensures at { IsAt ring.now.table.shared.table_id seat.new.table_id seat.new.me.0 }
 {
     let first = try_take(ring, seat, one)?;
@@ -160,8 +179,10 @@ fn a_part_is_in_one_hand_and_comes_back_as_it_was_given(rt: HostRuntime) -> Resu
     assert!(rt; look(&ring, &mut second, 0) == Some(0));
     assert!(rt; bring_on_beside(&ring, &mut archiver, &mut second, 0) == Some(None));
     assert!(rt; look(&ring, &mut second, 0) == Some(1) && look(&ring, &mut third, 0) == Some(1));
-    assert!(rt; look_at_both(&ring, &mut third, 0, 2) == Some((1, 0)));
+    assert!(rt; look_at_both(&ring, &mut third, 0, 3) == Some((1, 0)));
     assert!(rt; look_at_both(&ring, &mut third, 2, 2) == None);
-    assert!(rt; look(&ring, &mut archiver, 2) == Some(0));
+    assert!(rt;
+        look(&ring, &mut archiver, 2) == Some(0) && look(&ring, &mut archiver, 3) == Some(0)
+    );
     Ok(())
 }

@@ -1,5 +1,5 @@
 -- `look_at_both`: both parts are given back as they were taken, the first one after the second.
-use Rattle.std.proofs.Common.{◌≡◌, ℕ, refl, sym, ap, ◌∙◌, subst}
+use Rattle.std.proofs.Common.{◌≡◌, ℕ, sym, ap, ◌∙◌, subst}
 use Rattle.go_rule.specs.Views.{frame_of}
 use Rattle.go_turns.specs.Holding.{Holds, MayGive}
 use Rattle.go_turns.specs.Samples.{meaning_by}

@@ -1,5 +1,5 @@
 -- `opened`: the parts are as a ring wants them.
-use Rattle.std.proofs.Common.{◌≡◌, refl, sym, ap, ◌∙◌, arith, subst}
+use Rattle.std.proofs.Common.{refl, sym, ap, ◌∙◌, arith, subst}
 use Rattle.go_core.specs.declared.part.PartState.{PartState}
 use Rattle.go_rule.specs.declared.layout.Key.{Key}
 use Rattle.go_rule.specs.Opening.{CanOpen}

@@ -1,17 +1,15 @@
--- `bring_on_beside`: the shard is given back, brought on as far as its seat may bring it.
+-- `take_on`: the shard may be given back, brought on as far as its seat may bring it.
 use Rattle.std.proofs.Common.{◌≡◌, ℕ, refl, sym, ap, ◌∙◌, arith, subst}
-use Rattle.std.specs.Prelude.{max}
 use Rattle.go_core.specs.declared.part.PartState.{PartState}
 use Rattle.go_rule.specs.Views.{frame_of}
-use Rattle.go_rule.specs.Turns.{taking, CanGive}
-use Rattle.go_turns.specs.Holding.{MayGive}
+use Rattle.go_rule.specs.Turns.{CanGive}
 use Rattle.go_turns.specs.Samples.{meaning_by, brought_to}
 use Rattle.go_turns.proofs.Handing.{told_of, view_is, may_give}
 use Rattle.go_turns.proofs.Samples.{brought_can}
-use Rattle.go_turns.proofs.tests.bring_on_beside.Goals as goal
+use Rattle.go_turns.proofs.tests.take_on.Goals as goal
 
-pub give-requires-clause-may : goal.give-requires-clause-may
-give-requires-clause-may c =
+pub returns-clause-may : goal.returns-clause-may
+returns-clause-may c =
     let m = meaning_by (λ s. s) in
     let shards = c.args.ring.now.shards_is in
     let shard = c.requires.shard in
@@ -28,5 +26,4 @@ give-requires-clause-may c =
     ap (λ (n : ℕ). record lent { front = n }) c.max-part.ensures ∙ ap (brought_to 1) shows
     in
     let can = brought_can (λ s. s) f me.0 place old new 1 (told_of m f place old me now tries.1) (omega arith) c.requires.may is in
-    subst (λ (p : ℕ). MayGive m f p new now) (sym tries.0)
-    (may_give m f place old me now tries.1 new now refl refl (subst (λ d. CanGive m f d place old new) (sym (view_is m f place old me now tries.1)) can))
+    may_give m f place old me now tries.1 new now refl refl (subst (λ d. CanGive m f d place old new) (sym (view_is m f place old me now tries.1)) can)
