@@ -10,8 +10,8 @@ use crate::key::TurnKey;
 use go_core::{Part, TURNS};
 use go_rule::{Ring, Seat, give_turn};
 
-/// Gives a part back to the place that it was taken from, by the seat that took it, before all that this seat took earlier; its turn
-/// is free then, and one of those who wait for it is woken.
+/// Gives a part back to the place that it was taken from, by the seat that took it, which has taken none since that it still has. Its
+/// turn is free then, and one of those who sleep on it is woken.
 pub fn give<T: Part>(ring: &Ring<T>, seat: &mut Seat<T>, hold: Hold<T>)
     requires at { IsAt ring.now.table.shared.table_id seat.old.table_id seat.old.me.0 }
     requires within { hold.key.place ≤ ring.now.shards }

@@ -30,7 +30,7 @@ pub fn try_take<T: Part>(ring: &Ring<T>, seat: &mut Seat<T>, place: u32) -> Opti
     Some(Hold::back(TurnKey { place }, part))
 }
 
-/// Takes the part of a place as soon as its turn is free. It may wait, and tries again each time that the turn was given back.
+/// Takes the part of a place. Where its turn is taken, it sleeps until that is given back, and tries again, for ever if need be.
 pub fn take<T: Part, R: Wait>(rt: &R, ring: &Ring<T>, seat: &mut Seat<T>, place: u32) -> Hold<T>
     requires at { IsAt ring.now.table.shared.table_id seat.old.table_id seat.old.me.0 }
     requires within { place ≤ ring.now.shards }
