@@ -8,7 +8,7 @@ use Rattle.go_rule.specs.declared.view.Note.{Note}
 use Rattle.go_rule.specs.declared.view.SeatView.{SeatView}
 use Rattle.go_rule.specs.Meaning.{Meaning}
 use Rattle.go_rule.specs.Views.{with_unmoved}
-use Rattle.go_rule.specs.Turns.{taking, giving, IsTaken, TakesPart, CanGive, IsInSlot, HasPart, GivesPart}
+use Rattle.go_rule.specs.Turns.{taking, giving, IsTaken, TakesPart, CanGive, IsInSlot, GivesPart}
 use Rattle.go_rule.proofs.TurnCalls.{headed, value_is, given_is}
 use Rattle.go_turns.specs.Holding.{Holds, Takes, Tries, MayGive, Gives}
 
@@ -110,25 +110,14 @@ module _ {P : Type 0} (m : Meaning P) where
               about = t.turn.about;
               taken = told_before f me.0 place t.turn.part t.turn.taken;
             };
-        holds = record { noted = t.holds.noted; once = t.holds.once; slot = t.holds.slot };
+        holds = t.holds;
       }
 
-  module _ (place : ℕ) (part : P) (me then : Me (Maybe P) (SeatView P)) (put : then ≡ (me.0, (place, Some part) ∷ rest me.1)) where
-    -- a part that was put into its slot may be given back with its turn
-    pub has_again : (f : Frame) → MayGive m f place part me → HasPart m f place then
-    has_again f g =
-        record {
-          old = g.old;
-          new = part;
-          older = g.older;
-          is = lies_again place g.old part g.older g.slots me then put g.holds;
-          can = subst (λ d. CanGive m f d place g.old part) (sym (ap (λ z. z.0) put)) g.can;
-        }
-
-    -- and is given back then
-    pub gives_again : (now : Me (Maybe P) (SeatView P)) → GivesPart m place then now → Gives m place part me now
-    gives_again now g old older slots h =
-        let given : SeatView P → SeatView P = giving (record { place = place; part = old }) older (m.state_of old) (m.state_of part) in
-        given_is m place then now g old part older (lies_again place old part older slots me then put h)
-        ∙ ap (λ z. (given z.0, rest z.1)) put
-        ∙ ap (λ xs. (given me.0, rest xs)) h.slot
+  -- a part that was put into its slot, and went with its turn, was given back
+  pub given_back : (place : ℕ) (part : P) (me then now : Me (Maybe P) (SeatView P)) → then ≡ (me.0, (place, Some part) ∷ rest me.1)
+      → GivesPart m place then now → Gives m place part me now
+  given_back place part me then now put g old older slots h =
+      let given : SeatView P → SeatView P = giving (record { place = place; part = old }) older (m.state_of old) (m.state_of part) in
+      given_is m place then now g old part older (lies_again place old part older slots me then put h)
+      ∙ ap (λ z. (given z.0, rest z.1)) put
+      ∙ ap (λ xs. (given me.0, rest xs)) h.slot
