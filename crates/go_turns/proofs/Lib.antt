@@ -1,5 +1,6 @@
 -- The lemmas on turns.
 pub mod Handing
 pub mod Unchanged
+pub mod Later
 -- on the parts of the tests
 pub mod Samples

@@ -122,7 +122,7 @@ pub(crate) fn take_on(
     Some(hold)
 }
 
-// Brings a shard on where its turn is free, while another seat looks for it: what that finds.
+// Brings a shard on where its turn is free. Meanwhile another seat looks for it, which is told, and this one looks at the log's length.
 fn bring_on_beside(
     ring: &Ring<PartState>,
     seat: &mut Seat<PartState>,
@@ -138,6 +138,7 @@ fn bring_on_beside(
 {
     let hold = take_on(ring, seat, place)?;
     let found = look(ring, other, place);
+    load_head(ring, seat);
     give(ring, seat, hold);
     Some(found)
 }
