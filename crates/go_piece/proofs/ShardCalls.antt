@@ -1,9 +1,11 @@
 -- For callers that give a shard back: what each call of a shard made of it is what the ring asks of what comes back.
-use Rattle.std.proofs.Common.{◌≡◌, ℕ, ◌+◌, ◌<◌, ◌≤◌, Bool, true, false, List, [], ◌∷◌, ◌++◌, map, filter, length, take, refl, sym, ap, ◌∙◌, arith, subst}
-use Rattle.std.specs.Prelude.{All, max, not, if◌then◌else◌}
-use Rattle.std.proofs.lemmas.List.Elements.{All-weaker}
+use Rattle.std.proofs.Common.{◌≡◌, ℕ, ◌+◌, ◌-◌, ◌<◌, ◌≤◌, Bool, true, false, List, [], ◌∷◌, ◌++◌, map, filter, length, take, drop, refl, sym, ap, ◌∙◌, arith, subst}
+use Rattle.std.specs.Prelude.{◌%◌, ◌==◌, All, get_or, max, min, not, if◌then◌else◌}
+use Rattle.std.proofs.lemmas.List.{length-take, length-drop}
+use Rattle.std.proofs.lemmas.List.Elements.{All-weaker, All-take, All-drop}
 use Rattle.go_word.specs.declared.edge.Edge.{Edge}
 use Rattle.go_word.specs.declared.pin.Pin.{Pin}
+use Rattle.go_word.specs.Log.{IsWithin}
 use Rattle.go_word.specs.Pins.{is_named, has_name}
 use Rattle.go_core.specs.declared.part.PartState.{PartState}
 use Rattle.go_core.specs.Frame.{Frame}
@@ -12,10 +14,11 @@ use Rattle.go_core.proofs.PinCalls.{pins_unchanged, pins_added, pins_moved, pins
 use Rattle.go_disk.specs.Device.{Device}
 use Rattle.go_shard.specs.Parts.{IsShardOf}
 use Rattle.go_shard.specs.ShardState.{ShardState, Keeps, IsOf}
+use Rattle.go_shard.specs.Split.{IsSplit}
 use Rattle.go_shard.specs.Stands.{Stands, GoesOn, HasGrown, HasForgotten}
 use Rattle.go_rule.specs.declared.view.SeatView.{SeatView}
-use Rattle.go_rule.specs.Rule.{Begins}
-use Rattle.go_rule.specs.Turns.{owns_at, CanGive}
+use Rattle.go_rule.specs.Rule.{IsBelow, Begins}
+use Rattle.go_rule.specs.Turns.{owns_at, IsTaken, CanGive}
 use Rattle.go_piece.specs.declared.piece.Piece.{Piece}
 use Rattle.go_piece.specs.declared.piece.Piece.TheVariants.{Shard}
 use Rattle.go_piece.specs.Pieces.{state_in, Fits}
@@ -35,7 +38,40 @@ stands_pinned shard pins log stands = record {
   counts = λ s f is kept from. stands.counts s f (record { within = is.within; turn = is.turn }) kept from;
 }
 
+-- what is between vertices of a graph is
+within_below : (vertices : ℕ) (edges : List Edge) → All (IsBelow vertices) edges → All (IsWithin vertices) edges
+within_below vertices edges below = All-weaker (IsBelow vertices) (IsWithin vertices) (λ e is. record { source = is.src; destination = is.dst }) edges below
+
 module _ {D : Type 0} (device : Device D) (f : Frame) (d : SeatView (Piece D)) (place : ℕ) where
+  -- what a seat has seen is between vertices of the graph
+  pub seen_below : (piece : Piece D) → IsTaken (meaning_of device) f d place piece → All (IsBelow d.about.vertices) d.told.seen
+  seen_below piece taken =
+      subst (All (IsBelow d.about.vertices)) (sym taken.over.seen) (All-take (IsBelow d.about.vertices) (length d.told.seen) taken.log taken.over.below)
+
+  -- the log goes on with the shard's batch of what its seat has seen behind its front, split among the shards
+  pub batch_goes_on : (shard : ShardState) (front : ℕ) (batches : List (List Edge)) → IsShardInHand device d place shard → shard.front ≤ front
+      → front ≤ length d.told.seen → All (IsBelow d.about.vertices) d.told.seen → IsSplit d.about.shards (stretch shard.front front d.told.seen) batches
+      → GoesOn shard (stretch shard.front front d.told.seen) (get_or batches place []) front
+  batch_goes_on shard front batches held from within below split =
+      let more = stretch shard.front front d.told.seen in
+      let whose = held.fits.1 in
+      let long : length more ≡ min (front - shard.front) (length (drop shard.front d.told.seen)) =
+      length-take (front - shard.front) (drop shard.front d.told.seen)
+      in
+      let rest : length (drop shard.front d.told.seen) ≡ length d.told.seen - shard.front = length-drop shard.front d.told.seen in
+      let ids = within_below d.about.vertices more
+      (All-take (IsBelow d.about.vertices) (front - shard.front) (drop shard.front d.told.seen)
+      (All-drop (IsBelow d.about.vertices) shard.front d.told.seen below))
+      in
+      record {
+        reach = omega arith;
+        ids = subst (λ v. All (IsWithin v) more) (sym whose.vertices_are) ids;
+        own =
+            ap (λ n. filter (λ (e : Edge). e.src % n == shard.index) more) whose.shards_are
+            ∙ ap (λ i. filter (λ (e : Edge). e.src % d.about.shards == i) more) whose.index_is
+            ∙ sym (split.each place held.fits.0);
+      }
+
   -- a shard that took in what its seat has seen behind its front, up to what the seat may bring it to
   pub shard_appended : (old new : ShardState) (batch : List Edge) (front : ℕ) → IsShardPlace f place → IsShardInHand device d place old
       → ((log more : List Edge) → Stands old log → GoesOn old more batch front → Stands new (log ++ more)) → HasGrown front batch old new
@@ -99,12 +135,13 @@ module _ {D : Type 0} (device : Device D) (f : Frame) (d : SeatView (Piece D)) (
       })
 
   -- a shard with other pins, where they stand as they may
-  repinned : (old : ShardState) (pins : List Pin) → IsShardPlace f place → IsShardInHand device d place old
+  repinned : (old new : ShardState) (pins : List Pin) → IsShardPlace f place → IsShardInHand device d place old → new ≡ record old { pins = pins }
       → KeepsPins d.core.archived (owns_at place d) (state_in {D = D} (Shard old)) (state_in {D = D} (Shard (record old { pins = pins })))
-      → CanGive (meaning_of device) f d place (Shard old) (Shard (record old { pins = pins }))
-  repinned old pins here held keeps =
+      → CanGive (meaning_of device) f d place (Shard old) (Shard new)
+  repinned old new pins here held is keeps =
       let fits = held.fits.1 in
-      shard_given device f d place old (record old { pins = pins }) here
+      subst (λ (s : ShardState). CanGive (meaning_of device) f d place (Shard old) (Shard s)) (sym is)
+      (shard_given device f d place old (record old { pins = pins }) here
       (held.fits.0, record { index_is = fits.index_is; shards_are = fits.shards_are; vertices_are = fits.vertices_are })
       (λ log begins was. stands_pinned old pins (take old.front log) was)
       (record {
@@ -114,34 +151,35 @@ module _ {D : Type 0} (device : Device D) (f : Frame) (d : SeatView (Piece D)) (
         };
         own = held.stands.keeps_front;
         kept = λ n cut kept. kept;
-      })
+      }))
 
   -- one with a pin more, at its cut, under a name that was none's
-  pub shard_pinned : (old : ShardState) (id : ℕ) → IsShardPlace f place → IsShardInHand device d place old → has_name id old.pins ≡ false
-      → CanGive (meaning_of device) f d place (Shard old) (Shard (record old { pins = old.pins ++ record { id = id; front = old.cut } ∷ [] }))
-  shard_pinned old id here held fresh =
-      let pin : Pin = record { id = id; front = old.cut } in
+  pub shard_pinned : (old new : ShardState) (id front : ℕ) → IsShardPlace f place → IsShardInHand device d place old → has_name id old.pins ≡ false
+      → front ≡ old.cut → new ≡ record old { pins = old.pins ++ record { id = id; front = front } ∷ [] }
+      → CanGive (meaning_of device) f d place (Shard old) (Shard new)
+  shard_pinned old new id front here held fresh at_cut is =
+      let pin : Pin = record { id = id; front = front } in
       let pins = old.pins ++ pin ∷ [] in
-      repinned old pins here held
-      (pins_added d.core.archived (owns_at place d) (state_in {D = D} (Shard old)) (state_in {D = D} (Shard (record old { pins = pins }))) pin refl fresh refl
+      repinned old new pins here held is
+      (pins_added d.core.archived (owns_at place d) (state_in {D = D} (Shard old)) (state_in {D = D} (Shard (record old { pins = pins }))) pin refl fresh at_cut
       (omega arith) held.cut_pins held.names)
 
   -- one whose pin of a name that is the seat's was moved upwards, no further than the archived front that the seat knows
-  pub shard_pin_moved : (old : ShardState) (id front : ℕ) → IsShardPlace f place → IsShardInHand device d place old → owns_at place d id ≡ true
+  pub shard_pin_moved : (old new : ShardState) (id front : ℕ) → IsShardPlace f place → IsShardInHand device d place old → owns_at place d id ≡ true
       → All (λ pin. is_named id pin ≡ true → pin.front ≤ front) old.pins → front ≤ d.core.archived
-      → CanGive (meaning_of device) f d place (Shard old)
-      (Shard (record old { pins = map (λ pin. if is_named id pin then record { id = pin.id; front = front } else pin) old.pins }))
-  shard_pin_moved old id front here held mine up to =
+      → new ≡ record old { pins = map (λ pin. if is_named id pin then record { id = pin.id; front = front } else pin) old.pins }
+      → CanGive (meaning_of device) f d place (Shard old) (Shard new)
+  shard_pin_moved old new id front here held mine up to is =
       let pins = map (λ (pin : Pin). if is_named id pin then record { id = pin.id; front = front } else pin) old.pins in
-      repinned old pins here held
+      repinned old new pins here held is
       (pins_moved d.core.archived (owns_at place d) (state_in {D = D} (Shard old)) (state_in {D = D} (Shard (record old { pins = pins }))) id front refl mine up
       to (omega arith) held.cut_pins held.names)
 
   -- one without the pin of a name that is the seat's
-  pub shard_unpinned : (old : ShardState) (id : ℕ) → IsShardPlace f place → IsShardInHand device d place old → owns_at place d id ≡ true
-      → CanGive (meaning_of device) f d place (Shard old) (Shard (record old { pins = filter (λ pin. not (is_named id pin)) old.pins }))
-  shard_unpinned old id here held mine =
+  pub shard_unpinned : (old new : ShardState) (id : ℕ) → IsShardPlace f place → IsShardInHand device d place old → owns_at place d id ≡ true
+      → new ≡ record old { pins = filter (λ pin. not (is_named id pin)) old.pins } → CanGive (meaning_of device) f d place (Shard old) (Shard new)
+  shard_unpinned old new id here held mine is =
       let pins = filter (λ (pin : Pin). not (is_named id pin)) old.pins in
-      repinned old pins here held
+      repinned old new pins here held is
       (pins_removed d.core.archived (owns_at place d) (state_in {D = D} (Shard old)) (state_in {D = D} (Shard (record old { pins = pins }))) id refl mine
       (omega arith) held.cut_pins held.names)

@@ -18,7 +18,7 @@ ghost use Rattle.go_piece.specs.Pieces.{file_of};
 ghost use Rattle.go_piece.specs.Meanings.{meaning_of, stretch, IsShardInHand, IsLogInHand};
 
 use go_disk::MemDisk;
-use go_durable::{DurableLog, Flushed, Journal};
+use go_durable::{DurableLog, Flushed, Journal, Ranged};
 use go_shard::Shard;
 use go_word::Edge;
 use std::alloc::AllocError;
@@ -34,7 +34,8 @@ fn append(shard: &mut Shard, batch: &[Edge], front: u64) -> Result<(), AllocErro
         GoesOn shard.old (stretch shard.old.front front d.told.seen) batch.now front → front ≤ reach_of d.core →
         OnOk result (CanGive (meaning_of mem_device) f d place (pieces.Shard shard.old) (pieces.Shard shard.new)) }
 {
-    shard.append(batch, front)
+    shard.append(batch, front)?;
+    Ok(())
 }
 
 // A shard is compacted as far as it may be.
@@ -44,7 +45,8 @@ fn compact(shard: &mut Shard, archived: u64) -> Result<(), AllocError>
         archived ≤ d.core.archived → OnOk result (CanGive (meaning_of mem_device) f d place (pieces.Shard shard.old) (pieces.Shard shard.new)) }
 {
     let front = shard.settled(archived);
-    shard.compact(front)
+    shard.compact(front)?;
+    Ok(())
 }
 
 // A pin is put in.
@@ -53,7 +55,8 @@ fn pin(shard: &mut Shard) -> Result<u64, AllocError>
         OnOk result (CanGive (meaning_of mem_device) f d place (pieces.Shard shard.old) (pieces.Shard shard.new)) }
 {
     let id = shard.free_pin();
-    shard.pin(id)
+    let front = shard.pin(id)?;
+    Ok(front)
 }
 
 // A pin is moved upwards.
@@ -86,4 +89,15 @@ fn flush(log: DurableLog<MemDisk>, edges: &[Edge]) -> Flushed<MemDisk>
         CanGive (meaning_of mem_device) f d place (pieces.Log log) (file_of result.journal) }
 {
     Journal::Sound { log }.flush(edges)
+}
+
+// A range of entries is read from the file.
+fn read(log: DurableLog<MemDisk>, a: u64, b: u64, out: &mut Vec<Edge>) -> Ranged<MemDisk>
+    requires order { a ≤ b }
+    requires within { b ≤ log.front }
+    ensures { (f : Frame) (d : SeatView (Piece Tape)) (place : ℕ) → IsFilePlace f place → IsLogInHand mem_device d place log →
+        (is_spent result.journal ≡ true → (d.about.faults < 2 ^ 64 - 1) × (d.told.flagged ≡ true)) →
+        CanGive (meaning_of mem_device) f d place (pieces.Log log) (file_of result.journal) }
+{
+    Journal::Sound { log }.read_range(a, b, out)
 }

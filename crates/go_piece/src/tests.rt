@@ -60,18 +60,48 @@ fn begun(alloc: Global) -> Result<Shard, AllocError>
     Ok(shard)
 }
 
-// The same after a batch more, with a pin at the front 3, compacted up to there.
-fn grown(alloc: Global) -> Result<Piece<MemDisk>, AllocError>
+// The same after a batch more.
+fn longer(alloc: Global) -> Result<Shard, AllocError>
+    ensures index { IfOk result (λ shard. shard.index ≡ 1) }
+    ensures shards { IfOk result (λ shard. shard.shards ≡ 2) }
+    ensures vertices { IfOk result (λ shard. shard.vertices ≡ 8) }
+    ensures cut { IfOk result (λ shard. shard.cut ≡ 0) }
+    ensures front { IfOk result (λ shard. shard.front ≡ 6) }
+    ensures pins { IfOk result (λ shard. shard.pins ≡ []) }
+    ensures early { IfOk result (λ shard. Keeps shard 3) }
+    ensures late { IfOk result (λ shard. Keeps shard 6) }
+{
+    let mut shard = begun(alloc)?;
+    shard.append(&[add(1, 3), add(5, 1)], 6)?;
+    Ok(shard)
+}
+
+// The same with a pin at the front 3.
+fn pinned(alloc: Global) -> Result<Shard, AllocError>
+    ensures index { IfOk result (λ shard. shard.index ≡ 1) }
+    ensures shards { IfOk result (λ shard. shard.shards ≡ 2) }
+    ensures vertices { IfOk result (λ shard. shard.vertices ≡ 8) }
+    ensures cut { IfOk result (λ shard. shard.cut ≡ 0) }
+    ensures front { IfOk result (λ shard. shard.front ≡ 6) }
+    ensures pins { IfOk result (λ shard. shard.pins ≡ record { id = 9; front = 3 } ∷ []) }
+    ensures early { IfOk result (λ shard. Keeps shard 3) }
+    ensures late { IfOk result (λ shard. Keeps shard 6) }
+{
+    let mut shard = longer(alloc)?;
+    shard.pin(9)?;
+    shard.move_pin(9, 3);
+    Ok(shard)
+}
+
+// The same, compacted up to its pin.
+fn compacted(alloc: Global) -> Result<Piece<MemDisk>, AllocError>
     ensures state { IfOk result (λ piece. state_in piece ≡ record { front = 6; cut = 3; pins = record { id = 9; front = 3 } ∷ [] }) }
     ensures early { IfOk result (λ piece. KeepsFront piece 3) }
     ensures late { IfOk result (λ piece. KeepsFront piece 6) }
     ensures fits { IfOk result (λ piece. Fits mem_device piece 1 2 8) }
     ensures alone { IfOk result (λ piece. (place : ℕ) → Fits mem_device piece place 2 8 → place ≡ 1) }
 {
-    let mut shard = begun(alloc)?;
-    shard.append(&[add(1, 3), add(5, 1)], 6)?;
-    shard.pin(9)?;
-    shard.move_pin(9, 3);
+    let mut shard = pinned(alloc)?;
     shard.compact(3)?;
     Ok(Piece::Shard { shard })
 }
@@ -82,7 +112,7 @@ fn a_shard_is_a_piece_up_to_its_front(rt: HostRuntime) -> Result<(), Fail> {
         shard: begun(rt.alloc())?,
     };
     assert_eq!(rt; piece.front(), 3);
-    let piece = grown(rt.alloc())?;
+    let piece = compacted(rt.alloc())?;
     assert_eq!(rt; piece.front(), 6);
     assert!(rt; !piece.has_failed());
     assert!(rt; piece.into_journal().is_err());
