@@ -11,7 +11,7 @@ use Rattle.go_durable.specs.declared.journal.Journal.{Journal}
 use Rattle.go_durable.specs.declared.journal.Journal.TheVariants as journals
 use Rattle.go_durable.specs.Journal.{journal_disk, journal_front, is_spent, Keeps, KeepsOn}
 use Rattle.go_durable.specs.LogState.{LogState}
-use Rattle.go_durable.specs.Recovery.{Recovers, RecoversPart, AreNext}
+use Rattle.go_durable.specs.Recovery.{RecoversPart, AreNext}
 use Rattle.go_durable.specs.Standing.{IsLog}
 use Rattle.go_durable.proofs.Journals.{next_within}
 use Rattle.go_durable.proofs.Moments.{no_call}
@@ -22,7 +22,7 @@ use Rattle.go_rule.specs.Turns.{IsTaken, CanGive}
 use Rattle.go_rule.proofs.Beginnings.{begins_take}
 use Rattle.go_piece.specs.declared.piece.Piece.{Piece}
 use Rattle.go_piece.specs.declared.piece.Piece.TheVariants.{Log}
-use Rattle.go_piece.specs.Pieces.{file_of, mark_at, HasKeptSince}
+use Rattle.go_piece.specs.Pieces.{file_of, HasKeptSince}
 use Rattle.go_piece.specs.Meanings.{meaning_of, IsLogInHand}
 use Rattle.go_piece.proofs.Stretches.{seen_begins, seen_next}
 
@@ -77,7 +77,7 @@ module _ {D : Type 0} (device : Device D) where
 
 module _ {D : Type 0} (device : Device D) (f : Frame) (d : SeatView (Piece D)) (place : ℕ) where
   -- what a seat may tell of the log's file that it took
-  pub log_in_hand : (kept : LogState D) → IsFilePlace f place → IsTaken (meaning_of device) f d place (Log kept) → IsLogInHand device d place kept
+  pub log_in_hand : (kept : LogState D) → IsFilePlace f place → IsTaken (meaning_of device) f d place (Log kept) → IsLogInHand device d.about d.told.seen place kept
   log_in_hand kept here taken = record {
     fits = taken.fits;
     log = taken.log;
@@ -85,7 +85,7 @@ module _ {D : Type 0} (device : Device D) (f : Frame) (d : SeatView (Piece D)) (
     left = (taken.file here).recovers;
   }
 
-  module _ (rules : IsDevice device) (kept : LogState D) (edges : List Edge) (held : IsLogInHand device d place kept) where
+  module _ (rules : IsDevice device) (kept : LogState D) (edges : List Edge) (held : IsLogInHand device d.about d.told.seen place kept) where
     -- over any log that the file has kept, a journal that went on with it has kept that since it was taken
     keeps_taken : (journal : Journal D) → KeepsOn device edges (journals.Sound kept) journal → (log : List Edge)
         → IsLog device kept (take kept.front log) → AreNext edges kept.front log → Keeps device kept.vertices d.about.first log kept.disk journal
@@ -173,7 +173,7 @@ module _ {D : Type 0} (device : Device D) (f : Frame) (d : SeatView (Piece D)) (
         file_given journal here on next_in (omega arith) raised
 
   -- after it was read
-  pub file_read : (rules : IsDevice device) (kept : LogState D) → IsLogInHand device d place kept → (journal : Journal D) → IsFilePlace f place
+  pub file_read : (rules : IsDevice device) (kept : LogState D) → IsLogInHand device d.about d.told.seen place kept → (journal : Journal D) → IsFilePlace f place
       → KeepsOn device [] (journals.Sound kept) journal → journal_front journal ≡ kept.front
       → (is_spent journal ≡ true → (d.about.faults < 2 ^ 64 - 1) × (d.told.flagged ≡ true))
       → CanGive (meaning_of device) f d place (Log kept) (file_of journal)

@@ -4,3 +4,4 @@ pub mod Unchanged
 pub mod ShardCalls
 pub mod FileCalls
 pub mod Opening
+mod RingSamples

@@ -1,11 +1,9 @@
 -- For the caller that opens a ring: over what pieces it may be opened.
-use Rattle.std.proofs.Common.{◌≡◌, ◌⊎◌, ℕ, zero, suc, ◌+◌, ◌<◌, ◌≤◌, List, [], ◌∷◌, ◌++◌, map, length, get_or, take, refl, sym, ap, ◌∙◌, inl, inr, ⊎_elim, arith, subst}
+use Rattle.std.proofs.Common.{◌≡◌, ◌⊎◌, ℕ, zero, suc, ◌+◌, ◌<◌, List, [], ◌∷◌, ◌++◌, map, length, get_or, take, refl, sym, ap, ◌∙◌, inl, inr, ⊎_elim, arith, subst}
 use Rattle.std.proofs.Common.{length-append, append_assoc, append-nil}
-use Rattle.std.specs.Prelude.{Option as Maybe, Some, None, slice_get}
+use Rattle.std.specs.Prelude.{Option as Maybe, Some, slice_get}
 use Rattle.std.proofs.lemmas.Option.{same_Some, none-some}
 use Rattle.std.proofs.lemmas.List.{length-map, map-append, take_all}
-use Rattle.go_word.specs.declared.edge.Edge.{Edge}
-use Rattle.go_core.specs.Parts.{IsShardPlace, IsFilePlace}
 use Rattle.go_disk.specs.Device.{Device, IsDevice}
 use Rattle.go_durable.specs.declared.journal.Journal.TheVariants as journals
 use Rattle.go_durable.specs.Journal.{Keeps}
@@ -15,7 +13,7 @@ use Rattle.go_shard.specs.Parts.{HasPart}
 use Rattle.go_shard.specs.ShardState.{ShardState}
 use Rattle.go_rule.specs.declared.layout.Key.{Key}
 use Rattle.go_rule.specs.Opening.{IsFirst, IsFirstShard, IsFirstFile, CanOpen}
-use Rattle.go_rule.specs.Views.{frame_of, opened_of}
+use Rattle.go_rule.specs.Views.{opened_of}
 use Rattle.go_piece.specs.declared.piece.Piece.{Piece}
 use Rattle.go_piece.specs.declared.piece.Piece.TheVariants.{Shard, Log}
 use Rattle.go_piece.specs.Laying.{laid_out, HaveOpened}

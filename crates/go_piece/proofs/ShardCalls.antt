@@ -1,27 +1,25 @@
 -- For callers that give a shard back: what each call of a shard made of it is what the ring asks of what comes back.
-use Rattle.std.proofs.Common.{◌≡◌, ℕ, ◌+◌, ◌-◌, ◌<◌, ◌≤◌, Bool, true, false, List, [], ◌∷◌, ◌++◌, map, filter, length, take, drop, refl, sym, ap, ◌∙◌, arith, subst}
-use Rattle.std.specs.Prelude.{◌%◌, ◌==◌, All, get_or, max, min, not, if◌then◌else◌}
+use Rattle.std.proofs.Common.{◌≡◌, ℕ, ◌-◌, ◌≤◌, true, false, List, [], ◌∷◌, ◌++◌, map, filter, length, take, drop, refl, sym, ap, ◌∙◌, arith, subst}
+use Rattle.std.specs.Prelude.{◌%◌, ◌==◌, All, get_or, min, not, if◌then◌else◌}
 use Rattle.std.proofs.lemmas.List.{length-take, length-drop}
 use Rattle.std.proofs.lemmas.List.Elements.{All-weaker, All-take, All-drop}
 use Rattle.go_word.specs.declared.edge.Edge.{Edge}
 use Rattle.go_word.specs.declared.pin.Pin.{Pin}
 use Rattle.go_word.specs.Log.{IsWithin}
 use Rattle.go_word.specs.Pins.{is_named, has_name}
-use Rattle.go_core.specs.declared.part.PartState.{PartState}
 use Rattle.go_core.specs.Frame.{Frame}
 use Rattle.go_core.specs.Parts.{IsShardPlace, KeepsPins, reach_of}
 use Rattle.go_core.proofs.PinCalls.{pins_unchanged, pins_added, pins_moved, pins_removed}
 use Rattle.go_disk.specs.Device.{Device}
-use Rattle.go_shard.specs.Parts.{IsShardOf}
-use Rattle.go_shard.specs.ShardState.{ShardState, Keeps, IsOf}
+use Rattle.go_shard.specs.ShardState.{ShardState, Keeps}
 use Rattle.go_shard.specs.Split.{IsSplit}
 use Rattle.go_shard.specs.Stands.{Stands, GoesOn, HasGrown, HasForgotten}
 use Rattle.go_rule.specs.declared.view.SeatView.{SeatView}
-use Rattle.go_rule.specs.Rule.{IsBelow, Begins}
+use Rattle.go_rule.specs.Rule.{IsBelow}
 use Rattle.go_rule.specs.Turns.{owns_at, IsTaken, CanGive}
 use Rattle.go_piece.specs.declared.piece.Piece.{Piece}
 use Rattle.go_piece.specs.declared.piece.Piece.TheVariants.{Shard}
-use Rattle.go_piece.specs.Pieces.{state_in, Fits}
+use Rattle.go_piece.specs.Pieces.{state_in}
 use Rattle.go_piece.specs.Meanings.{meaning_of, stretch, IsShardInHand}
 use Rattle.go_piece.proofs.Stretches.{stretched}
 use Rattle.go_piece.proofs.Unchanged.{shard_given}
@@ -49,7 +47,7 @@ module _ {D : Type 0} (device : Device D) (f : Frame) (d : SeatView (Piece D)) (
       subst (All (IsBelow d.about.vertices)) (sym taken.over.seen) (All-take (IsBelow d.about.vertices) (length d.told.seen) taken.log taken.over.below)
 
   -- the log goes on with the shard's batch of what its seat has seen behind its front, split among the shards
-  pub batch_goes_on : (shard : ShardState) (front : ℕ) (batches : List (List Edge)) → IsShardInHand device d place shard → shard.front ≤ front
+  pub batch_goes_on : (shard : ShardState) (front : ℕ) (batches : List (List Edge)) → IsShardInHand device d.about place shard → shard.front ≤ front
       → front ≤ length d.told.seen → All (IsBelow d.about.vertices) d.told.seen → IsSplit d.about.shards (stretch shard.front front d.told.seen) batches
       → GoesOn shard (stretch shard.front front d.told.seen) (get_or batches place []) front
   batch_goes_on shard front batches held from within below split =
@@ -73,7 +71,7 @@ module _ {D : Type 0} (device : Device D) (f : Frame) (d : SeatView (Piece D)) (
       }
 
   -- a shard that took in what its seat has seen behind its front, up to what the seat may bring it to
-  pub shard_appended : (old new : ShardState) (batch : List Edge) (front : ℕ) → IsShardPlace f place → IsShardInHand device d place old
+  pub shard_appended : (old new : ShardState) (batch : List Edge) (front : ℕ) → IsShardPlace f place → IsShardInHand device d.about place old
       → ((log more : List Edge) → Stands old log → GoesOn old more batch front → Stands new (log ++ more)) → HasGrown front batch old new
       → GoesOn old (stretch old.front front d.told.seen) batch front → front ≤ reach_of d.core
       → CanGive (meaning_of device) f d place (Shard old) (Shard new)
@@ -106,7 +104,7 @@ module _ {D : Type 0} (device : Device D) (f : Frame) (d : SeatView (Piece D)) (
       })
 
   -- a shard that was compacted up to a front, no further than the archived one that its seat knows and than each pin
-  pub shard_compacted : (old new : ShardState) (front : ℕ) → IsShardPlace f place → IsShardInHand device d place old
+  pub shard_compacted : (old new : ShardState) (front : ℕ) → IsShardPlace f place → IsShardInHand device d.about place old
       → ((log : List Edge) → Stands old log → Stands new log) → HasForgotten front old new
       → old.cut ≤ front → front ≤ d.core.archived → All (λ pin. front ≤ pin.front) old.pins
       → CanGive (meaning_of device) f d place (Shard old) (Shard new)
@@ -135,7 +133,7 @@ module _ {D : Type 0} (device : Device D) (f : Frame) (d : SeatView (Piece D)) (
       })
 
   -- a shard with other pins, where they stand as they may
-  repinned : (old new : ShardState) (pins : List Pin) → IsShardPlace f place → IsShardInHand device d place old → new ≡ record old { pins = pins }
+  repinned : (old new : ShardState) (pins : List Pin) → IsShardPlace f place → IsShardInHand device d.about place old → new ≡ record old { pins = pins }
       → KeepsPins d.core.archived (owns_at place d) (state_in {D = D} (Shard old)) (state_in {D = D} (Shard (record old { pins = pins })))
       → CanGive (meaning_of device) f d place (Shard old) (Shard new)
   repinned old new pins here held is keeps =
@@ -154,7 +152,7 @@ module _ {D : Type 0} (device : Device D) (f : Frame) (d : SeatView (Piece D)) (
       }))
 
   -- one with a pin more, at its cut, under a name that was none's
-  pub shard_pinned : (old new : ShardState) (id front : ℕ) → IsShardPlace f place → IsShardInHand device d place old → has_name id old.pins ≡ false
+  pub shard_pinned : (old new : ShardState) (id front : ℕ) → IsShardPlace f place → IsShardInHand device d.about place old → has_name id old.pins ≡ false
       → front ≡ old.cut → new ≡ record old { pins = old.pins ++ record { id = id; front = front } ∷ [] }
       → CanGive (meaning_of device) f d place (Shard old) (Shard new)
   shard_pinned old new id front here held fresh at_cut is =
@@ -165,7 +163,7 @@ module _ {D : Type 0} (device : Device D) (f : Frame) (d : SeatView (Piece D)) (
       (omega arith) held.cut_pins held.names)
 
   -- one whose pin of a name that is the seat's was moved upwards, no further than the archived front that the seat knows
-  pub shard_pin_moved : (old new : ShardState) (id front : ℕ) → IsShardPlace f place → IsShardInHand device d place old → owns_at place d id ≡ true
+  pub shard_pin_moved : (old new : ShardState) (id front : ℕ) → IsShardPlace f place → IsShardInHand device d.about place old → owns_at place d id ≡ true
       → All (λ pin. is_named id pin ≡ true → pin.front ≤ front) old.pins → front ≤ d.core.archived
       → new ≡ record old { pins = map (λ pin. if is_named id pin then record { id = pin.id; front = front } else pin) old.pins }
       → CanGive (meaning_of device) f d place (Shard old) (Shard new)
@@ -176,7 +174,7 @@ module _ {D : Type 0} (device : Device D) (f : Frame) (d : SeatView (Piece D)) (
       to (omega arith) held.cut_pins held.names)
 
   -- one without the pin of a name that is the seat's
-  pub shard_unpinned : (old new : ShardState) (id : ℕ) → IsShardPlace f place → IsShardInHand device d place old → owns_at place d id ≡ true
+  pub shard_unpinned : (old new : ShardState) (id : ℕ) → IsShardPlace f place → IsShardInHand device d.about place old → owns_at place d id ≡ true
       → new ≡ record old { pins = filter (λ pin. not (is_named id pin)) old.pins } → CanGive (meaning_of device) f d place (Shard old) (Shard new)
   shard_unpinned old new id here held mine is =
       let pins = filter (λ (pin : Pin). not (is_named id pin)) old.pins in

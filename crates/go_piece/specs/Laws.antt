@@ -8,14 +8,13 @@ use Rattle.go_disk.specs.Device.{Device}
 use Rattle.go_durable.specs.declared.journal.Journal.{Journal}
 use Rattle.go_durable.specs.declared.journal.Journal.TheVariants as journals
 use Rattle.go_durable.specs.Appending.{HasImage}
-use Rattle.go_durable.specs.Journal.{HasDurable, Keeps, journal_disk, journal_front}
-use Rattle.go_durable.specs.Moments.{LeavesOnly}
+use Rattle.go_durable.specs.Journal.{HasDurable, Keeps, journal_front}
 use Rattle.go_durable.specs.Recovery.{Recovers, RecoversPart}
 use Rattle.go_durable.specs.Standing.{IsLog}
 use Rattle.go_shard.specs.Stands.{Stands}
 use Rattle.go_piece.specs.declared.piece.Piece.{Piece}
 use Rattle.go_piece.specs.declared.piece.Piece.TheVariants.{Shard, Log, Spent}
-use Rattle.go_piece.specs.Pieces.{HasKept, HasKeptSince, StandsFor, HasLeft}
+use Rattle.go_piece.specs.Pieces.{StandsFor, HasLeft}
 
 -- a beginning of so many entries is within its log
 within_log : (front : ℕ) (log : List Edge) → length (take front log) ≡ front → front ≤ length log

@@ -1,12 +1,12 @@
 -- What pieces mean to the rule of a ring, and what a caller knows of a piece that a seat has in its hand.
-use Rattle.std.specs.Prelude.{◌≡◌, ℕ, ◌-◌, ◌≤◌, List, take, drop, All}
+use Rattle.std.specs.Prelude.{ℕ, ◌-◌, ◌≤◌, List, take, drop, All}
 use Rattle.go_word.specs.declared.edge.Edge.{Edge}
 use Rattle.go_disk.specs.Device.{Device}
 use Rattle.go_durable.specs.LogState.{LogState}
 use Rattle.go_shard.specs.ShardState.{ShardState}
 use Rattle.go_shard.specs.Stands.{Stands}
 use Rattle.go_core.specs.Parts.{AreNamed}
-use Rattle.go_rule.specs.declared.view.SeatView.{SeatView}
+use Rattle.go_rule.specs.declared.view.About.{About}
 use Rattle.go_rule.specs.Meaning.{Meaning}
 use Rattle.go_rule.specs.Rule.{Begins}
 use Rattle.go_rule.specs.Turns.{mark_in as seat_mark}
@@ -31,16 +31,16 @@ abbrev pub stretch : ℕ → ℕ → List Edge → List Edge
 stretch from upto log = take (upto - from) (drop from log)
 
 -- a shard in a seat's hand is the one of its place, stands for a log, has no pin below its cut and no two of one name
-pub record IsShardInHand {D : Type 0} (device : Device D) (d : SeatView (Piece D)) (place : ℕ) (shard : ShardState) : Type 0 where
-  pub fits : Fits device (Shard shard) place d.about.shards d.about.vertices
+pub record IsShardInHand {D : Type 0} (device : Device D) (about : About) (place : ℕ) (shard : ShardState) : Type 0 where
+  pub fits : Fits device (Shard shard) place about.shards about.vertices
   pub log : List Edge
   pub stands : Stands shard log
   pub cut_pins : All (λ pin. shard.cut ≤ pin.front) shard.pins
   pub names : AreNamed shard.pins
 
 -- a log in a seat's hand is the file of its ring, and has kept a log that begins with what the seat has seen since the ring was made
-pub record IsLogInHand {D : Type 0} (device : Device D) (d : SeatView (Piece D)) (place : ℕ) (kept : LogState D) : Type 0 where
-  pub fits : Fits device (Log kept) place d.about.shards d.about.vertices
+pub record IsLogInHand {D : Type 0} (device : Device D) (about : About) (seen : List Edge) (place : ℕ) (kept : LogState D) : Type 0 where
+  pub fits : Fits device (Log kept) place about.shards about.vertices
   pub log : List Edge
-  pub begins : Begins log d.told.seen
-  pub left : HasLeft device (Log kept) log d.about.vertices d.about.first (seat_mark d.about)
+  pub begins : Begins log seen
+  pub left : HasLeft device (Log kept) log about.vertices about.first (seat_mark about)

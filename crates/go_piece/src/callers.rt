@@ -30,7 +30,7 @@ fn append(shard: &mut Shard, batch: &[Edge], front: u64) -> Result<(), AllocErro
     requires short { length batch.now ≤ front - shard.old.front }
     requires ids { All (IsWithin shard.old.vertices) batch.now }
     requires own { All (λ e. is_own shard.old e ≡ true) batch.now }
-    ensures { (f : Frame) (d : SeatView (Piece Tape)) (place : ℕ) → IsShardPlace f place → IsShardInHand mem_device d place shard.old →
+    ensures { (f : Frame) (d : SeatView (Piece Tape)) (place : ℕ) → IsShardPlace f place → IsShardInHand mem_device d.about place shard.old →
         GoesOn shard.old (stretch shard.old.front front d.told.seen) batch.now front → front ≤ reach_of d.core →
         OnOk result (CanGive (meaning_of mem_device) f d place (pieces.Shard shard.old) (pieces.Shard shard.new)) }
 {
@@ -41,7 +41,7 @@ fn append(shard: &mut Shard, batch: &[Edge], front: u64) -> Result<(), AllocErro
 // A shard is compacted as far as it may be.
 fn compact(shard: &mut Shard, archived: u64) -> Result<(), AllocError>
     requires { shard.old.cut ≤ archived }
-    ensures { (f : Frame) (d : SeatView (Piece Tape)) (place : ℕ) → IsShardPlace f place → IsShardInHand mem_device d place shard.old →
+    ensures { (f : Frame) (d : SeatView (Piece Tape)) (place : ℕ) → IsShardPlace f place → IsShardInHand mem_device d.about place shard.old →
         archived ≤ d.core.archived → OnOk result (CanGive (meaning_of mem_device) f d place (pieces.Shard shard.old) (pieces.Shard shard.new)) }
 {
     let front = shard.settled(archived);
@@ -51,7 +51,7 @@ fn compact(shard: &mut Shard, archived: u64) -> Result<(), AllocError>
 
 // A pin is put in.
 fn pin(shard: &mut Shard) -> Result<u64, AllocError>
-    ensures { (f : Frame) (d : SeatView (Piece Tape)) (place : ℕ) → IsShardPlace f place → IsShardInHand mem_device d place shard.old →
+    ensures { (f : Frame) (d : SeatView (Piece Tape)) (place : ℕ) → IsShardPlace f place → IsShardInHand mem_device d.about place shard.old →
         OnOk result (CanGive (meaning_of mem_device) f d place (pieces.Shard shard.old) (pieces.Shard shard.new)) }
 {
     let id = shard.free_pin();
@@ -64,7 +64,7 @@ fn move_pin(shard: &mut Shard, id: u64, front: u64)
     requires named { has_name id shard.old.pins ≡ true }
     requires upwards { All (λ pin. is_named id pin ≡ true → pin.front ≤ front) shard.old.pins }
     requires kept { Keeps shard.old front }
-    ensures { (f : Frame) (d : SeatView (Piece Tape)) (place : ℕ) → IsShardPlace f place → IsShardInHand mem_device d place shard.old →
+    ensures { (f : Frame) (d : SeatView (Piece Tape)) (place : ℕ) → IsShardPlace f place → IsShardInHand mem_device d.about place shard.old →
         owns_at place d id ≡ true → front ≤ d.core.archived →
         CanGive (meaning_of mem_device) f d place (pieces.Shard shard.old) (pieces.Shard shard.new) }
 {
@@ -74,7 +74,7 @@ fn move_pin(shard: &mut Shard, id: u64, front: u64)
 // A pin is taken away.
 fn unpin(shard: &mut Shard, id: u64)
     requires { has_name id shard.old.pins ≡ true }
-    ensures { (f : Frame) (d : SeatView (Piece Tape)) (place : ℕ) → IsShardPlace f place → IsShardInHand mem_device d place shard.old →
+    ensures { (f : Frame) (d : SeatView (Piece Tape)) (place : ℕ) → IsShardPlace f place → IsShardInHand mem_device d.about place shard.old →
         owns_at place d id ≡ true → CanGive (meaning_of mem_device) f d place (pieces.Shard shard.old) (pieces.Shard shard.new) }
 {
     shard.unpin(id);
@@ -83,7 +83,7 @@ fn unpin(shard: &mut Shard, id: u64)
 // Entries are appended to the file.
 fn flush(log: DurableLog<MemDisk>, edges: &[Edge]) -> Flushed<MemDisk>
     requires { CanAppend edges.now (Sound log) }
-    ensures { (f : Frame) (d : SeatView (Piece Tape)) (place : ℕ) → IsFilePlace f place → IsLogInHand mem_device d place log →
+    ensures { (f : Frame) (d : SeatView (Piece Tape)) (place : ℕ) → IsFilePlace f place → IsLogInHand mem_device d.about d.told.seen place log →
         AreNext edges.now log.front d.told.seen → log.front + length edges.now ≤ max log.front d.core.taken →
         (is_spent result.journal ≡ true → (d.about.faults < 2 ^ 64 - 1) × (d.told.flagged ≡ true)) →
         CanGive (meaning_of mem_device) f d place (pieces.Log log) (file_of result.journal) }
@@ -95,7 +95,7 @@ fn flush(log: DurableLog<MemDisk>, edges: &[Edge]) -> Flushed<MemDisk>
 fn read(log: DurableLog<MemDisk>, a: u64, b: u64, out: &mut Vec<Edge>) -> Ranged<MemDisk>
     requires order { a ≤ b }
     requires within { b ≤ log.front }
-    ensures { (f : Frame) (d : SeatView (Piece Tape)) (place : ℕ) → IsFilePlace f place → IsLogInHand mem_device d place log →
+    ensures { (f : Frame) (d : SeatView (Piece Tape)) (place : ℕ) → IsFilePlace f place → IsLogInHand mem_device d.about d.told.seen place log →
         (is_spent result.journal ≡ true → (d.about.faults < 2 ^ 64 - 1) × (d.told.flagged ≡ true)) →
         CanGive (meaning_of mem_device) f d place (pieces.Log log) (file_of result.journal) }
 {

@@ -18,4 +18,6 @@ pub use piece::Piece;
 #[cfg(test)]
 mod callers;
 #[cfg(test)]
+mod ring_tests;
+#[cfg(test)]
 mod tests;

@@ -1,5 +1,5 @@
 -- A shard that was compacted.
-use Rattle.std.proofs.Common.{arith, ◌≤◌}
+use Rattle.std.proofs.Common.{arith}
 use Rattle.go_disk.specs.MemDisk.{mem_device}
 use Rattle.go_piece.proofs.ShardCalls.{shard_compacted}
 use Rattle.go_piece.proofs.callers.compact.Goals as goal

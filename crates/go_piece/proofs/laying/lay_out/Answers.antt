@@ -1,5 +1,5 @@
 -- The loop of `lay_out`.
-use Rattle.std.proofs.Common.{◌≡◌, ℕ, List, [], ◌++◌, map, Some, length, ap, ◌∙◌, arith, subst}
+use Rattle.std.proofs.Common.{◌≡◌, List, [], ◌++◌, map, Some, length, ap, ◌∙◌, arith, subst}
 use Rattle.std.specs.Vec.Iter.{into_iter_items}
 use Rattle.std.proofs.lemmas.List.{nil_from_length}
 use Rattle.go_shard.specs.ShardState.{ShardState}
