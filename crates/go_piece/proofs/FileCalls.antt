@@ -77,7 +77,8 @@ module _ {D : Type 0} (device : Device D) where
 
 module _ {D : Type 0} (device : Device D) (f : Frame) (d : SeatView (Piece D)) (place : ℕ) where
   -- what a seat may tell of the log's file that it took
-  pub log_in_hand : (kept : LogState D) → IsFilePlace f place → IsTaken (meaning_of device) f d place (Log kept) → IsLogInHand device d.about d.told.seen place kept
+  pub log_in_hand : (kept : LogState D) → IsFilePlace f place → IsTaken (meaning_of device) f d place (Log kept)
+      → IsLogInHand device d.about d.told.seen place kept
   log_in_hand kept here taken = record {
     fits = taken.fits;
     log = taken.log;
@@ -173,7 +174,8 @@ module _ {D : Type 0} (device : Device D) (f : Frame) (d : SeatView (Piece D)) (
         file_given journal here on next_in (omega arith) raised
 
   -- after it was read
-  pub file_read : (rules : IsDevice device) (kept : LogState D) → IsLogInHand device d.about d.told.seen place kept → (journal : Journal D) → IsFilePlace f place
+  pub file_read : (rules : IsDevice device) (kept : LogState D) → IsLogInHand device d.about d.told.seen place kept → (journal : Journal D)
+      → IsFilePlace f place
       → KeepsOn device [] (journals.Sound kept) journal → journal_front journal ≡ kept.front
       → (is_spent journal ≡ true → (d.about.faults < 2 ^ 64 - 1) × (d.told.flagged ≡ true))
       → CanGive (meaning_of device) f d place (Log kept) (file_of journal)

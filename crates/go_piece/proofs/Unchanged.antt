@@ -17,7 +17,8 @@ use Rattle.go_piece.specs.Meanings.{meaning_of, IsShardInHand}
 
 module _ {D : Type 0} (device : Device D) (f : Frame) (d : SeatView (Piece D)) (place : ℕ) where
   -- what a seat may tell of a shard that it took
-  pub shard_in_hand : (shard : ShardState) → IsShardPlace f place → IsTaken (meaning_of device) f d place (Shard shard) → IsShardInHand device d.about place shard
+  pub shard_in_hand : (shard : ShardState) → IsShardPlace f place → IsTaken (meaning_of device) f d place (Shard shard)
+      → IsShardInHand device d.about place shard
   shard_in_hand shard here taken =
       let of = taken.shard here in
       record { fits = taken.fits; log = take shard.front taken.log; stands = taken.over.stands; cut_pins = of.in_hand.cut_pins; names = of.in_hand.names }
