@@ -45,10 +45,6 @@ next_of_seen (e ∷ es) front seen next log begins =
     let rest : length (drop front seen) ≡ length seen - front = length-drop front seen in
     next ∙ seen_next front n log seen begins (omega arith)
 
--- a count of faults that rose is greater than one that isn't at its end
-pub rose_past : (first now : ℕ) → first < 2 ^ 64 - 1 → Rose first now → first < now
-rose_past first now small rose = omega arith
-
 module _ {D : Type 0} (device : Device D) where
   -- a log that stands for the first entries of another keeps that from now on
   pub keeps_now : IsDevice device → (first : ℕ) (log : List Edge) (kept : LogState D) → IsLog device kept (take kept.front log) → first ≤ kept.front
@@ -108,10 +104,10 @@ module _ {D : Type 0} (device : Device D) (f : Frame) (d : SeatView (Piece D)) (
         omega arith
 
     -- the file, after entries were to be appended that each log has next which begins with what the seat has seen, no further than the seat took.
-    -- Where its disk failed, the flag is known to be raised, and the count of faults wasn't at its end as the ring was made.
+    -- Where its disk failed, the flag is known to be raised.
     pub file_given : (journal : Journal D) → IsFilePlace f place → KeepsOn device edges (journals.Sound kept) journal
         → ((log : List Edge) → Begins log d.told.seen → AreNext edges kept.front log) → journal_front journal ≤ max kept.front d.core.taken
-        → (is_spent journal ≡ true → (d.about.faults < 2 ^ 64 - 1) × (d.told.flagged ≡ true))
+        → (is_spent journal ≡ true → d.told.flagged ≡ true)
         → CanGive (meaning_of device) f d place (Log kept) (file_of journal)
     file_given (journals.Sound new) here on next to raised =
         let left = held.left in
@@ -154,7 +150,7 @@ module _ {D : Type 0} (device : Device D) (f : Frame) (d : SeatView (Piece D)) (
             successor = record { front_from = on.no_less; front_to = to; cut = refl; pins = refl };
             clock = taken.moments.passes.later;
             faults = taken.count;
-            spent = λ failed. (rose_past d.about.faults (device.faults disk) (raised refl).0 rose, (raised refl).1);
+            spent = λ failed. (rose, raised refl);
             recovers = λ log begins was. record {
               opened = was.opened;
               at = was.at;
@@ -166,7 +162,7 @@ module _ {D : Type 0} (device : Device D) (f : Frame) (d : SeatView (Piece D)) (
     -- after entries that the seat has seen next were to be appended
     pub file_flushed : (journal : Journal D) → IsFilePlace f place → KeepsOn device edges (journals.Sound kept) journal
         → AreNext edges kept.front d.told.seen → kept.front + length edges ≤ max kept.front d.core.taken
-        → (is_spent journal ≡ true → (d.about.faults < 2 ^ 64 - 1) × (d.told.flagged ≡ true))
+        → (is_spent journal ≡ true → d.told.flagged ≡ true)
         → CanGive (meaning_of device) f d place (Log kept) (file_of journal)
     file_flushed journal here on next to raised =
         let next_in = next_of_seen edges kept.front d.told.seen next in
@@ -177,7 +173,7 @@ module _ {D : Type 0} (device : Device D) (f : Frame) (d : SeatView (Piece D)) (
   pub file_read : (rules : IsDevice device) (kept : LogState D) → IsLogInHand device d.about d.told.seen place kept → (journal : Journal D)
       → IsFilePlace f place
       → KeepsOn device [] (journals.Sound kept) journal → journal_front journal ≡ kept.front
-      → (is_spent journal ≡ true → (d.about.faults < 2 ^ 64 - 1) × (d.told.flagged ≡ true))
+      → (is_spent journal ≡ true → d.told.flagged ≡ true)
       → CanGive (meaning_of device) f d place (Log kept) (file_of journal)
   file_read rules kept held journal here on same raised =
       file_given rules kept [] held journal here on (λ log begins. refl) (omega arith) raised

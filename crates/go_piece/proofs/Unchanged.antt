@@ -1,6 +1,7 @@
 -- For callers that give a piece back as it was, or a shard as another: what is left to be known.
 use Rattle.std.proofs.Common.{◌≡◌, ℕ, ◌+◌, ◌<◌, true, List, take, refl, arith}
 use Rattle.go_word.specs.declared.edge.Edge.{Edge}
+use Rattle.go_text.specs.Causes.{Rose}
 use Rattle.go_core.specs.Frame.{Frame}
 use Rattle.go_core.specs.Parts.{IsShardPlace, IsFilePlace}
 use Rattle.go_core.proofs.PinCalls.{pins_unchanged}
@@ -51,7 +52,7 @@ module _ {D : Type 0} (device : Device D) (f : Frame) (d : SeatView (Piece D)) (
 
   -- a log's file as it was; of one that failed the count of faults has risen since the ring was made, and the flag has to be known to be raised
   pub file_unchanged : (piece : Piece D) → IsFilePlace f place → Fits device piece place d.about.shards d.about.vertices
-      → (HasFailed piece → (d.about.faults < (mark_in device piece).faults) × (d.told.flagged ≡ true)) → CanGive (meaning_of device) f d place piece piece
+      → (HasFailed piece → Rose d.about.faults (mark_in device piece).faults × (d.told.flagged ≡ true)) → CanGive (meaning_of device) f d place piece piece
   file_unchanged piece here fits failed = record {
     fits = fits;
     stands = λ log begins was. was;

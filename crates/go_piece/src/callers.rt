@@ -85,7 +85,7 @@ fn flush(log: DurableLog<MemDisk>, edges: &[Edge]) -> Flushed<MemDisk>
     requires { CanAppend edges.now (Sound log) }
     ensures { (f : Frame) (d : SeatView (Piece Tape)) (place : ℕ) → IsFilePlace f place → IsLogInHand mem_device d.about d.told.seen place log →
         AreNext edges.now log.front d.told.seen → log.front + length edges.now ≤ max log.front d.core.taken →
-        (is_spent result.journal ≡ true → (d.about.faults < 2 ^ 64 - 1) × (d.told.flagged ≡ true)) →
+        (is_spent result.journal ≡ true → d.told.flagged ≡ true) →
         CanGive (meaning_of mem_device) f d place (pieces.Log log) (file_of result.journal) }
 {
     Journal::Sound { log }.flush(edges)
@@ -96,7 +96,7 @@ fn read(log: DurableLog<MemDisk>, a: u64, b: u64, out: &mut Vec<Edge>) -> Ranged
     requires order { a ≤ b }
     requires within { b ≤ log.front }
     ensures { (f : Frame) (d : SeatView (Piece Tape)) (place : ℕ) → IsFilePlace f place → IsLogInHand mem_device d.about d.told.seen place log →
-        (is_spent result.journal ≡ true → (d.about.faults < 2 ^ 64 - 1) × (d.told.flagged ≡ true)) →
+        (is_spent result.journal ≡ true → d.told.flagged ≡ true) →
         CanGive (meaning_of mem_device) f d place (pieces.Log log) (file_of result.journal) }
 {
     Journal::Sound { log }.read_range(a, b, out)

@@ -4,6 +4,7 @@ use Rattle.std.specs.Prelude.{slice_index, sum_by, Option as Maybe, Some}
 use mathlib.Core.Option.{Option, some}
 use lib.ListN.{get_elem?}
 use Rattle.atomic_table.specs.Table.{State}
+use Rattle.go_text.specs.Causes.{Rose}
 use Rattle.go_word.specs.declared.edge.Edge.{Edge}
 use Rattle.go_word.specs.declared.pin.Pin.{Pin}
 use Rattle.go_core.specs.declared.view.View.{View}
@@ -98,7 +99,7 @@ module _ {P : Type 0} where
     pub record IsFile (key : Key P) (log : List Edge) (words : List ℕ) (views : List View) (part : P) : Type 0 where
       pub clock : (m.mark_of key.file.value).clock ≤ (m.mark_of part).clock
       pub faults : (m.mark_of key.file.value).faults ≤ (m.mark_of part).faults
-      pub spent : m.is_spent part → ((m.mark_of key.file.value).faults < (m.mark_of part).faults) × (0 < flag_in words)
+      pub spent : m.is_spent part → Rose (m.mark_of key.file.value).faults (m.mark_of part).faults × (0 < flag_in words)
       pub recovered : IsRecovered key log views part
 
     -- turns and homes: a turn word counts the seats that have the part in their hand, and where it counts none the part is at home

@@ -2,6 +2,7 @@
 use Rattle.std.specs.Prelude.{◌≡◌, ◌⊎◌, ℕ, ◌+◌, ◌<◌, ◌≤◌, ◌==◌, Bool, true, false, not, List, [], ◌∷◌, ◌++◌, map, filter, length, All, Contains}
 use Rattle.std.specs.Prelude.{find, is_some, Option as Maybe, Some}
 use Rattle.atomic_table.specs.Table.{Step, Me, rest}
+use Rattle.go_text.specs.Causes.{Rose}
 use Rattle.go_word.specs.declared.edge.Edge.{Edge}
 use Rattle.go_word.specs.declared.pin.Pin.{Pin}
 use Rattle.go_core.specs.declared.part.PartState.{PartState}
@@ -75,7 +76,7 @@ module _ {P : Type 0} where
       pub front_from : d.core.durable ≤ (m.state_of part).front
       pub clock : d.about.clock ≤ (m.mark_of part).clock
       pub faults : d.about.faults ≤ (m.mark_of part).faults
-      pub spent : m.is_spent part → d.about.faults < (m.mark_of part).faults
+      pub spent : m.is_spent part → Rose d.about.faults (m.mark_of part).faults
       pub recovers : m.recovers part log d.about.vertices d.about.first (mark_in d.about)
 
     -- a part that a seat took stands for a log, within that, which begins with all that the seat has seen
@@ -118,7 +119,7 @@ module _ {P : Type 0} where
       pub successor : IsFileSuccessor d.core.taken (m.state_of old) (m.state_of new)
       pub clock : (m.mark_of old).clock ≤ (m.mark_of new).clock
       pub faults : (m.mark_of old).faults ≤ (m.mark_of new).faults
-      pub spent : m.is_spent new → (d.about.faults < (m.mark_of new).faults) × (d.told.flagged ≡ true)
+      pub spent : m.is_spent new → Rose d.about.faults (m.mark_of new).faults × (d.told.flagged ≡ true)
       pub recovers : (log : List Edge) → Begins log d.told.seen → m.recovers old log d.about.vertices d.about.first (mark_in d.about)
           → m.recovers new log d.about.vertices d.about.first (mark_in d.about)
 

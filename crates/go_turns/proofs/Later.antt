@@ -6,6 +6,7 @@ use Rattle.atomic_table.specs.Table.{Me}
 use Rattle.go_word.specs.declared.edge.Edge.{Edge}
 use Rattle.go_word.specs.declared.pin.Pin.{Pin}
 use Rattle.go_word.specs.Pins.{is_named}
+use Rattle.go_text.specs.Causes.{Rose}
 use Rattle.go_core.specs.declared.part.PartState.{PartState}
 use Rattle.go_core.specs.Frame.{Frame}
 use Rattle.go_core.specs.Parts.{Follows, KeepsPins, reach_of}
@@ -89,7 +90,7 @@ module _ {P : Type 0} (m : Meaning P) where
               faults = s.faults;
               spent = λ gone.
                   (let spent = s.spent gone in
-                  (subst (λ (a : About). a.faults < (m.mark_of new).faults) (sym knows.about) spent.0, knows.flagged spent.1));
+                  (subst (λ (a : About). Rose a.faults (m.mark_of new).faults) (sym knows.about) spent.0, knows.flagged spent.1));
               recovers = λ log begins recovers.
                   subst (λ (a : About). m.recovers new log a.vertices a.first (mark_in a)) (sym knows.about)
                   (s.recovers log (begins_before log e.told.seen d.told.seen knows.seen begins)

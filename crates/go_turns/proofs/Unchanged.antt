@@ -2,6 +2,7 @@
 use Rattle.std.proofs.Common.{◌≡◌, ℕ, ◌<◌, true, sym, refl, ap, ◌∙◌, arith, subst}
 use Rattle.std.specs.Prelude.{Option as Maybe}
 use Rattle.atomic_table.specs.Table.{Me}
+use Rattle.go_text.specs.Causes.{Rose}
 use Rattle.go_core.specs.Frame.{Frame}
 use Rattle.go_core.specs.Parts.{IsFilePlace}
 use Rattle.go_core.proofs.PinCalls.{pins_unchanged}
@@ -38,7 +39,7 @@ same_can m f d now place part t about flagged =
             successor = record { front_from = omega arith; front_to = omega arith; cut = refl; pins = refl };
             clock = omega arith;
             faults = omega arith;
-            spent = λ gone. (subst (λ (a : About). a.faults < (m.mark_of part).faults) (sym about) (s.spent gone), flagged file gone);
+            spent = λ gone. (subst (λ (a : About). Rose a.faults (m.mark_of part).faults) (sym about) (s.spent gone), flagged file gone);
             recovers = λ log begins recovers. recovers;
           };
     }
