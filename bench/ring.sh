@@ -21,3 +21,16 @@ for claim in 1 64; do
             printf "%-8d %6d %9.3f %9.1f %10.3f %9.3f %9.2f %8.2f\n", threads, claim, a / 1e6, a * 1000 / entries, b / 1e6, c / 1e6, a / b, a / c }'
     done
 done
+
+# One thread takes a part that is at home and gives it back, which asks the system to wake whoever sleeps on the turn; beside a swap and a store
+# round the same moves of a part, and a lock, of baseline/turns.rs, which ask it for nothing.
+turns=1000000
+rustc -O --edition 2024 -o "$work/turns" "$here/baseline/turns.rs"
+for kind in atomics mutex; do
+    cmp <("$ours" turns $turns 2> /dev/null) <("$work/turns" $kind $turns 2> /dev/null)
+done
+a=$(least 1 "$ours" turns $turns)
+b=$(least 1 "$work/turns" atomics $turns)
+c=$(least 1 "$work/turns" mutex $turns)
+awk -v turns=$turns -v a="$a" -v b="$b" -v c="$c" 'BEGIN {
+    printf "\nturns: %.1f ns each; plain atomics %.1f, mutex %.1f: %.2f and %.2f times\n", a * 1000 / turns, b * 1000 / turns, c * 1000 / turns, a / b, a / c }'

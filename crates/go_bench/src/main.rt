@@ -11,6 +11,7 @@ mod ring;
 mod ring_puts;
 mod ring_worker;
 mod shard;
+mod turns;
 
 use edges::Shape;
 use std::{env, io};
@@ -36,6 +37,7 @@ fn main(rt: HostRuntime) -> io::Result<()> {
                 .map_or(1, |claim| claim.parse::<u32>().unwrap_or(1));
             ring::run(&rt, rt.alloc(), entries, threads, claim)
         }
+        "turns" => turns::run(&rt, rt.alloc(), entries),
         "write-blocks" => blocks::write(&rt, rt.alloc(), file, u64::from(entries)),
         "append-log" => durable::append(&rt, rt.alloc(), file, u64::from(entries)),
         "read-blocks" => blocks::read(&rt, rt.alloc(), file),

@@ -57,7 +57,7 @@ fn part(alloc: Global) -> PartState
 }
 
 // A ring with one shard and the file, from position 0 on.
-fn opened(alloc: Global, quota: u64) -> Result<Opened<PartState>, AllocError>
+pub(crate) fn opened(alloc: Global, quota: u64) -> Result<Opened<PartState>, AllocError>
     requires { quota < 2 ^ 32 - 1 }
     ensures at { IfOk result (λ o. IsAt o.ring.table.shared.table_id o.seat.table_id o.seat.me.0) }
     ensures sizes { IfOk result (λ o. (o.ring.table.shared.key.layout.shards ≡ 1) × (o.ring.table.shared.key.layout.vertices ≡ 65536)) }
