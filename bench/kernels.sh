@@ -1,6 +1,6 @@
 #!/usr/bin/env bash
 # Questions to a whole graph, over logs of 1,000,000 entries and 65,536 vertices and of 10,000,000 and 1,000,000, an eighth of them deletions:
-# rank, bfs and 1,000 lists of neighbours in one script, 1,000 levels (100 over the larger log) in another, and a script that only takes a view.
+# rank, bfs and 1,000 lists of neighbours in one script, 1,000 levels (20 over the larger log) in another, and a script that only takes a view.
 # Each run opens the log.
 # Beside the plain Rust program of baseline/kernels.rs over adjacency vectors in the same run; replies are compared.
 set -eu
@@ -48,4 +48,4 @@ over() {
 }
 
 over 1000000 65536 1 1000
-over 10000000 1000000 2 100
+over 10000000 1000000 2 20
