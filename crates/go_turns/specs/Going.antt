@@ -1,10 +1,10 @@
 -- What a seat has after calls in which it gave back each part that it took.
 use Rattle.std.specs.Prelude.{◌≡◌, ◌↔◌, ℕ, ◌≤◌, true, false, [], Contains}
+use Rattle.go_word.specs.declared.pin.Pin.{Pin}
 use Rattle.go_core.specs.Frame.{Frame}
 use Rattle.go_core.specs.Parts.{IsShardPlace}
-use Rattle.go_rule.specs.declared.view.PlacedPin.{PlacedPin}
 use Rattle.go_rule.specs.declared.view.SeatView.{SeatView}
-use Rattle.go_rule.specs.Rule.{Begins}
+use Rattle.go_rule.specs.Rule.{Begins, pins_at}
 
 module _ {P : Type 0} where
   -- what such calls leave of a seat's view: all but what it knows of the log, of the flag and of the parts; its pins are told apart
@@ -28,7 +28,7 @@ module _ {P : Type 0} where
 
   -- a seat's pins in shards are the ones that it had
   abbrev pub SamePins : Frame → SeatView P → SeatView P → Type 0
-  SamePins f d e = (x : PlacedPin) → IsShardPlace f x.place → Contains e.stake.pins x ↔ Contains d.stake.pins x
+  SamePins f d e = (place : ℕ) → IsShardPlace f place → (pin : Pin) → Contains (pins_at place e) pin ↔ Contains (pins_at place d) pin
 
   -- a seat knows no less; the parts in its hand, its pins, its shares, its entries and the causes that it raised are as they were
   pub record HasGoneOn (f : Frame) (d e : SeatView P) : Type 0 where
