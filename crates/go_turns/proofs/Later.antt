@@ -21,7 +21,7 @@ use Rattle.go_turns.specs.Holding.{MayGive}
 use Rattle.go_turns.proofs.Handing.{holds_on}
 
 -- a beginning of a beginning of the log is one of the log
-begins_before : (log more seen : List Edge) → Begins more seen → Begins log more → Begins log seen
+pub begins_before : (log more seen : List Edge) → Begins more seen → Begins log more → Begins log seen
 begins_before log more seen one two =
     one ∙ ap (take (length seen)) two ∙ take-take (length seen) (length more) log (begins_within more seen one)
 
