@@ -1,10 +1,10 @@
 -- For callers: a seat has gone on after each step of the ring, and after a part that it took was given back with the pins that it had.
-use Rattle.std.proofs.Common.{◌≡◌, ◌≢◌, ◌↔◌, ℕ, suc, ◌<◌, ◌≤◌, Bool, true, false, cond, List, [], ◌∷◌, length, take_all, sym, refl, ap, ◌∙◌, ⊎_elim, arith, subst}
-use Rattle.std.specs.Prelude.{All, Contains, find, filter, nat_lt, not, ◌||◌, ◌==◌, Some, None, Option as Maybe}
+use Rattle.std.proofs.Common.{◌≡◌, ◌≢◌, ◌↔◌, ℕ, suc, ◌≤◌, Bool, true, false, cond, List, [], ◌∷◌, length, take_all, sym, refl, ap, ◌∙◌, ⊎_elim, arith, subst}
+use Rattle.std.specs.Prelude.{All, Contains, find, filter, nat_lt, not, ◌||◌, ◌==◌, Some, Option as Maybe}
 use Rattle.std.proofs.lemmas.Bool.{cases_Bool, or_cases, false≢true}
 use Rattle.std.proofs.lemmas.Bool.Decides.{nat_tests}
 use Rattle.std.proofs.lemmas.Option.{same_Some}
-use Rattle.std.proofs.lemmas.List.Elements.{All-nil, All-cons, All-head, All-tail, All-weaker, All-contains, All-contains_itself, All-filter, filter_passes}
+use Rattle.std.proofs.lemmas.List.Elements.{All-nil, All-cons, All-weaker, All-contains, All-contains_itself, All-filter, filter_passes}
 use Rattle.atomic_table.specs.Table.{Me, Step}
 use Rattle.go_word.specs.declared.edge.Edge.{Edge}
 use Rattle.go_word.specs.declared.pin.Pin.{Pin}
@@ -24,7 +24,7 @@ use Rattle.go_rule.specs.Turns.{giving, own_pins, taking}
 use Rattle.go_rule.specs.Views.{with_unmoved}
 use Rattle.go_rule.proofs.Lists.{is_number}
 use Rattle.go_rule.proofs.TurnPins.{pins_here, pins_else}
-use Rattle.go_turns.specs.Going.{but_known, KnowsMore, SamePins, HasGoneOn}
+use Rattle.go_turns.specs.Going.{but_known, KnowsMore, HasGoneOn}
 use Rattle.go_turns.specs.Holding.{Takes, Gives}
 use Rattle.go_turns.proofs.Handing.{told_of, view_is, holds_on}
 use Rattle.go_turns.proofs.Later.{begins_before}

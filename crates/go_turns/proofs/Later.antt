@@ -1,5 +1,5 @@
 -- For callers: as what a part may be given back, as that it may be after further steps too, by which its seat forgets nothing.
-use Rattle.std.proofs.Common.{◌≡◌, ℕ, ◌<◌, ◌≤◌, Bool, true, List, [], length, take, take-take, sym, ap, ◌∙◌, inl, inr, ⊎_elim, arith, subst}
+use Rattle.std.proofs.Common.{◌≡◌, ℕ, ◌≤◌, Bool, true, List, [], length, take, take-take, sym, ap, ◌∙◌, inl, inr, ⊎_elim, arith, subst}
 use Rattle.std.specs.Prelude.{find, Some, None, Option as Maybe}
 use Rattle.std.proofs.lemmas.List.Elements.{All-weaker}
 use Rattle.atomic_table.specs.Table.{Me}

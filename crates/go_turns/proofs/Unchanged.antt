@@ -1,5 +1,5 @@
 -- For callers: a part may be given back as it was taken, whatever its seat did meanwhile.
-use Rattle.std.proofs.Common.{◌≡◌, ℕ, ◌<◌, true, sym, refl, ap, ◌∙◌, arith, subst}
+use Rattle.std.proofs.Common.{◌≡◌, ℕ, true, sym, refl, ap, ◌∙◌, arith, subst}
 use Rattle.std.specs.Prelude.{Option as Maybe}
 use Rattle.atomic_table.specs.Table.{Me}
 use Rattle.go_text.specs.Causes.{Rose}

@@ -1,4 +1,4 @@
-// Three threads take three shards by turns: each counts there, and one brings them on.
+// Three threads take three shards by turns, at random: each counts there, and one brings them on.
 ghost use Rattle.std.specs.Prelude.{◌≡◌, ◌^◌, ◌<◌, ◌≤◌, IfOk, true, []};
 ghost use Rattle.go_rule.specs.Steps.{IsAt};
 ghost use Rattle.go_rule.specs.Samples.{IsFree, IsArchiver};
@@ -15,8 +15,11 @@ use std::test::Fail;
 use std::thread;
 use std::thread::Threads;
 
-// How often each thread takes each shard, and how far one of them brings these on.
-const ROUNDS: u64 = 300;
+// How many edges there are, up to which one of the threads brings the shards on.
+const EDGES: u64 = 300;
+
+// How often each thread takes a shard.
+const TURNS: u64 = 900;
 
 // A part that counts how often it was in a hand.
 #[derive(Drop)]
@@ -86,7 +89,7 @@ fn opened(alloc: Global) -> Result<Opened<Counted>, AllocError>
             shards: 3,
         },
         first: 0,
-        quota: ROUNDS,
+        quota: EDGES,
         opened: Snapshot::of(&Vec::new(alloc)),
         file: Snapshot::of(&file),
     };
@@ -108,7 +111,7 @@ fn opened(alloc: Global) -> Result<Opened<Counted>, AllocError>
     }
 }
 
-// Puts as many edges as there are rounds, and takes them.
+// Puts all edges, and takes them.
 fn put_and_take_all(ring: &Ring<Counted>, seat: &mut Seat<Counted>) -> bool
     requires at { IsAt ring.now.table.shared.table_id seat.old.table_id seat.old.me.0 }
     requires free { IsFree seat.old.me }
@@ -121,7 +124,7 @@ fn put_and_take_all(ring: &Ring<Counted>, seat: &mut Seat<Counted>) -> bool
     ensures lot { seat.new.me.0.share.lot ≡ 2 ^ 32 }
 {
     let mut at = 0;
-    while at < ROUNDS {
+    while at < EDGES {
         if !put_and_take(ring, seat, at) {
             return false;
         }
@@ -163,13 +166,31 @@ fn rises(before: Found, now: Found) -> bool {
     before.front <= now.front && before.count <= now.count
 }
 
-// Counts in each shard as often as there are rounds, and brings them on a position each time, as far as that: whether nothing fell.
-fn count_in_all<R: Wait>(
+// What a thread has to tell of its turns.
+#[derive(Clone, Copy)]
+struct Tally {
+    // whether no front and no count fell
+    rises: bool,
+    // how often it had each shard
+    turns: [u64; 3],
+    // how far it brought each on
+    brought: [u64; 3],
+}
+
+// The next of a row of numbers that look random.
+fn next(seed: u64) -> u64 {
+    seed.wrapping_mul(6364136223846793005)
+        .wrapping_add(1442695040888963407)
+}
+
+// Takes one shard after another, drawn at random, counts in it, and brings it on a position further each time, as far as its reach.
+fn count_at_random<R: Wait>(
     rt: &R,
     ring: &Ring<Counted>,
     mut seat: Seat<Counted>,
     reach: u64,
-) -> (bool, Seat<Counted>)
+    seed: u64,
+) -> (Tally, Seat<Counted>)
     requires at { IsAt ring.now.table.shared.table_id seat.table_id seat.me.0 }
     requires free { IsFree seat.me }
     requires may { MayBring reach seat.me.0 }
@@ -178,24 +199,26 @@ fn count_in_all<R: Wait>(
     ensures free { IsFree result.1.me }
     ensures stays { Stays seat.me.0 result.1.me.0 }
 {
-    let mut all_rise = true;
+    let mut tally = Tally {
+        rises: true,
+        turns: [0; 3],
+        brought: [0; 3],
+    };
     let mut last = [Found { front: 0, count: 0 }; 3];
-    let mut round = 0;
-    while round < ROUNDS {
-        round += 1;
-        let to = reach.min(round);
-        let found = [
-            count_in(rt, ring, &mut seat, 0, to),
-            count_in(rt, ring, &mut seat, 1, to),
-            count_in(rt, ring, &mut seat, 2, to),
-        ];
-        all_rise = all_rise
-            && rises(last[0], found[0])
-            && rises(last[1], found[1])
-            && rises(last[2], found[2]);
-        last = found;
+    let mut number = seed;
+    let mut turn = 0;
+    while turn < TURNS {
+        turn += 1;
+        number = next(number);
+        let place = ((number >> 33) % 3) as usize;
+        let to = reach.min(turn);
+        let found = count_in(rt, ring, &mut seat, place as u32, to);
+        tally.rises = tally.rises && rises(last[place], found);
+        tally.turns[place] = tally.turns[place].saturating_add(1);
+        tally.brought[place] = to;
+        last[place] = found;
     }
-    (all_rise, seat)
+    (tally, seat)
 }
 
 // Two threads count.
@@ -204,7 +227,7 @@ fn count_by_two<R: Threads + Wait + Sync>(
     ring: &Ring<Counted>,
     one: Seat<Counted>,
     two: Seat<Counted>,
-) -> (bool, Seat<Counted>, Seat<Counted>)
+) -> ([Tally; 2], Seat<Counted>, Seat<Counted>)
     requires one_at { IsAt ring.now.table.shared.table_id one.table_id one.me.0 }
     requires one_free { IsFree one.me }
     requires two_at { IsAt ring.now.table.shared.table_id two.table_id two.me.0 }
@@ -217,12 +240,12 @@ fn count_by_two<R: Threads + Wait + Sync>(
     ensures two_free { IsFree result.2.me }
     ensures two_stays { Stays two.me.0 result.2.me.0 }
 {
-    let ((one_rises, one), (two_rises, two)) = thread::join(
+    let ((by_one, one), (by_two, two)) = thread::join(
         rt,
-        move || -> (bool, Seat<Counted>) { count_in_all(rt, ring, one, 0) },
-        move || -> (bool, Seat<Counted>) { count_in_all(rt, ring, two, 0) },
+        move || -> (Tally, Seat<Counted>) { count_at_random(rt, ring, one, 0, 1) },
+        move || -> (Tally, Seat<Counted>) { count_at_random(rt, ring, two, 0, 2) },
     );
-    (one_rises && two_rises, one, two)
+    ([by_one, by_two], one, two)
 }
 
 // Three threads count, by two seats split off the first one, which brings the shards on; then these are joined and the ring is closed.
@@ -230,7 +253,7 @@ fn count_by_three<R: Threads + Wait + Sync>(
     rt: &R,
     ring: Ring<Counted>,
     mut archiver: Seat<Counted>,
-) -> (bool, Closed<Counted>)
+) -> ([Tally; 3], Closed<Counted>)
     requires at { IsAt ring.table.shared.table_id archiver.table_id archiver.me.0 }
     requires free { IsFree archiver.me }
     requires may { MayBring 300 archiver.me.0 }
@@ -240,15 +263,15 @@ fn count_by_three<R: Threads + Wait + Sync>(
     let one = split(&ring, &mut archiver, 0, 1);
     let two = split(&ring, &mut archiver, 0, 1);
     let shared = &ring;
-    let ((first_rises, mut archiver), (others_rise, one, two)) = thread::join(
+    let ((first, mut archiver), (others, one, two)) = thread::join(
         rt,
-        move || -> (bool, Seat<Counted>)
+        move || -> (Tally, Seat<Counted>)
             requires at { IsAt shared.now.table.shared.table_id archiver.table_id archiver.me.0 }
             requires free { IsFree archiver.me }
             requires may { MayBring 300 archiver.me.0 }
             requires shards { shared.now.table.shared.key.layout.shards ≡ 3 }
-        { count_in_all(rt, shared, archiver, ROUNDS) },
-        move || -> (bool, Seat<Counted>, Seat<Counted>)
+        { count_at_random(rt, shared, archiver, EDGES, 3) },
+        move || -> ([Tally; 2], Seat<Counted>, Seat<Counted>)
             requires one_at { IsAt shared.now.table.shared.table_id one.table_id one.me.0 }
             requires one_free { IsFree one.me }
             requires two_at { IsAt shared.now.table.shared.table_id two.table_id two.me.0 }
@@ -258,25 +281,34 @@ fn count_by_three<R: Threads + Wait + Sync>(
     );
     join(&ring, &mut archiver, one);
     join(&ring, &mut archiver, two);
-    (first_rises && others_rise, close(ring, archiver))
+    let closed = close(ring, archiver);
+    ([first, others[0], others[1]], closed)
 }
 
-// Whether each of these was brought on as far as the rounds go, and counted by each of three threads in each round.
-fn all_counted(shards: &[Counted]) -> bool {
-    for shard in shards {
-        if shard.state.front != ROUNDS || shard.count != 3 * ROUNDS {
+// Whether a shard was brought on as far as the first thread did, by which it went on to the end, and counted as often as all three had it, which
+// each did.
+fn is_counted(shard: &Counted, tallies: &[Tally; 3], place: usize) -> bool
+    requires { place < 3 }
+{
+    let mut turns = 0u64;
+    for tally in tallies {
+        if !tally.rises || tally.turns[place] == 0 {
             return false;
         }
+        turns = turns.saturating_add(tally.turns[place]);
     }
-    true
+    let brought = tallies[0].brought[place];
+    brought == EDGES && shard.state.front == brought && shard.count == turns
 }
 
 #[test]
 fn three_threads_count_in_three_shards(rt: HostRuntime) -> Result<(), Fail> {
     let Opened { ring, mut seat } = opened(rt.alloc())?;
     assert!(rt; put_and_take_all(&ring, &mut seat));
-    let (rises, closed) = count_by_three(&rt, ring, seat);
-    assert!(rt; rises && closed.parts.len() == 4);
-    assert!(rt; all_counted(&closed.parts.as_slice()[..3]) && closed.parts[3].count == 0);
+    let (tallies, closed) = count_by_three(&rt, ring, seat);
+    assert!(rt; closed.parts.len() == 4 && closed.parts[3].count == 0);
+    for place in 0..3 {
+        assert!(rt; is_counted(&closed.parts[place], &tallies, place));
+    }
     Ok(())
 }
