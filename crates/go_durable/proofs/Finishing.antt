@@ -16,6 +16,7 @@ use Rattle.go_durable.specs.Finishing.{IsWhole, Ends, HasFinished}
 use Rattle.go_durable.specs.Journal.{journal_disk, journal_front, is_spent, HasDurable, Keeps, KeepsOn, HasFlushed}
 use Rattle.go_durable.specs.LogState.{LogState}
 use Rattle.go_durable.specs.Recovery.{Recovers, RecoversPart, AreNext}
+use Rattle.go_durable.proofs.Journals.{told_has}
 use Rattle.go_durable.proofs.Standing.{log_image, log_file}
 
 module _ {D : Type 0} (device : Device D) (rules : IsDevice device) where
@@ -51,7 +52,11 @@ module _ {D : Type 0} (device : Device D) (rules : IsDevice device) where
           has = inr (subst (λ (n : ℕ). File n (take kept.front log) now.0) has.vertices_are
               (log_file device kept (take kept.front log) now.0 has.stands now.1));
         }
-  one_image v log opened (Spent disk front) has = has.one
+  one_image v log opened (Spent disk front) has = if_told (device.contents opened) has.told where
+    if_told : (o : Option (List ℕ)) → IfSome o (λ bytes. IsSome (device.contents disk))
+        → IfSome o (λ bytes. HasImage (device.images disk) (Recovers v (take front log)))
+    if_told None told = tt
+    if_told (Some bytes) told = told_has (device.contents disk) told has.one
 
   -- a file of the whole log is an image, where the disk told
   whole_image : (v : ℕ) (log : List Edge) (opened : D) (kept : LogState D) → take kept.front log ≡ log → HasDurable device v log opened (Sound kept) →

@@ -18,7 +18,7 @@ use Rattle.go_durable.specs.LogState.{LogState, IsPlacedBefore, IsInRow, AreInRo
 use Rattle.go_durable.specs.Moments.{LeavesOnly}
 use Rattle.go_durable.specs.Recovery.{IsBeforeOrAfter}
 use Rattle.go_durable.specs.Standing.{IsShut, IsLog}
-use Rattle.go_durable.specs.Writing.{IsShutOrOpened, IsOpenedOn, StaysShut}
+use Rattle.go_durable.specs.Writing.{IsShutOrOpened, IsOpenedOn, StaysShut, TellsOn}
 use Rattle.go_durable.specs.Appending.{HasImage, IsLongerBy, IsSpent}
 use Rattle.go_durable.proofs.Moments.{weaker}
 
@@ -64,12 +64,13 @@ pub append_spends : {D : Type 0} (device : Device D) (edges : List Edge) (old : 
     IsDevice device → gate ≡ old.gate →
     ((log : List Edge) → IsLog device old log → LeavesOnly device old.disk new (IsBeforeOrAfter old.vertices log edges)) →
     ((front : List ℕ) → IsShut device front old.disk → gate ≡ length front → StaysShut (device.contents old.disk) (device.base new) front) →
-    IsSpent device edges old new
-append_spends device edges old new gate rules gate_is moments stays = record {
+    TellsOn device old.disk new → IsSpent device edges old new
+append_spends device edges old new gate rules gate_is moments stays told = record {
   each = λ log is image is_image. let leaves = moments log is in
       leaves.each image (rules.counts_now new (device.clock old.disk) image leaves.passes.later is_image);
   one = λ log is. base_has_log device old.vertices log is.bytes new (device.contents old.disk) (device.base new) (front_of device old log is) rules refl
       (stays is.bytes is.shut (gate_is ∙ is.gate_is));
+  told = told;
 }
 
 -- the numbers of a log go on by those of a block of these entries, whose bytes behind its gate are these

@@ -90,7 +90,7 @@ module _ {D : Type 0} (device : Device D) where
       ((log : List Edge) → IsLog device old log → LeavesOnly device old.disk disk (File old.vertices log))
       → device.faults old.disk ≤ device.faults disk → KeepsOn device [] (Sound old) (Spent disk old.front)
   read_spent old disk rose spent moments count =
-      keeps_spent device [] old disk rose (record { each = λ log is image here. inl (spent.each log is image here); one = spent.one })
+      keeps_spent device [] old disk rose (record { each = λ log is image here. inl (spent.each log is image here); one = spent.one; told = spent.told })
       (λ log is. weaker device old.disk disk (File old.vertices log) (IsBeforeOrAfter old.vertices log []) (λ image file. inl file) (moments log is)) count
 
   -- the same, where a fault tells of the disk

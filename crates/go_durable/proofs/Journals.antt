@@ -21,6 +21,7 @@ use Rattle.go_durable.specs.LogState.{LogState}
 use Rattle.go_durable.specs.Moments.{LeavesOnly}
 use Rattle.go_durable.specs.Recovery.{Recovers, IsBeforeOrAfter, RecoversPart, AreNext}
 use Rattle.go_durable.specs.Standing.{IsLog}
+use Rattle.go_durable.proofs.Gates.{some_not_none}
 use Rattle.go_durable.proofs.Moments.{joined, weaker}
 use Rattle.go_durable.specs.declared.journal.Journal.{Journal}
 use Rattle.go_durable.specs.declared.journal.Journal.TheVariants.{Sound, Spent}
@@ -51,7 +52,7 @@ fewer v less least log image le part =
     record { count = part.count; at_least = omega (arith, le, part.at_least); at_most = part.at_most; recovers = part.recovers }
 
 -- what is told, of bytes that are told
-told_has : {P : Type 0} (o : Option (List ℕ)) → IsSome o → IfSome o (λ bytes. P) → P
+pub told_has : {P : Type 0} (o : Option (List ℕ)) → IsSome o → IfSome o (λ bytes. P) → P
 told_has None some has = absurd (let h : false ≡ true = some in cc)
 told_has (Some bytes) some has = has
 
@@ -161,8 +162,9 @@ module _ {D : Type 0} (device : Device D) where
             each = λ image is_image. before_or_after v old.front edges log image next keeps.most
                 (subst (λ (n : ℕ). IsBeforeOrAfter n (take old.front log) edges image) keeps.has.vertices_are
                 (spent.each (take old.front log) stood image is_image));
-            one = lost_one (device.contents opened) (device.contents old.disk) (device.images disk) old.vertices v
-                (take old.front log) keeps.has.vertices_are keeps.has.told (spent.one (take old.front log) stood);
+            told = still_told (device.contents opened) (device.contents old.disk) (device.contents disk) keeps.has.told spent.told;
+            one = lost_one (device.contents old.disk) (device.contents disk) (device.images disk) old.vertices v
+                (take old.front log) keeps.has.vertices_are spent.told (spent.one (take old.front log) stood);
             rose = rose_since (device.faults opened) (device.faults old.disk) (device.faults disk) keeps.count rose;
           };
           least = keeps.least;
@@ -173,13 +175,12 @@ module _ {D : Type 0} (device : Device D) where
     no_less = omega arith;
     met_stays = λ met. refl;
   } where
-    lost_one : (opened was : Option (List ℕ)) (left : List ℕ → Type 0) (w v : ℕ) (log : List Edge) → w ≡ v → IfSome opened (λ bytes. IsSome was)
-        → IfSome was (λ bytes. HasImage left (File w log)) →
-        IfSome opened (λ bytes. HasImage left (Recovers v log))
-    lost_one None was left w v log same told one = tt
-    lost_one (Some bytes) was left w v log same told one =
-        let has = told_has was told one in
-        record { image = has.image; is_image = has.is_image; has = inr (subst (λ (n : ℕ). File n log has.image) same has.has) }
+    lost_one : (was now : Option (List ℕ)) (left : List ℕ → Type 0) (w v : ℕ) (log : List Edge) → w ≡ v → StaysTold (λ a b. Unit {0}) was now
+        → IfSome was (λ bytes. HasImage left (File w log)) → IfSome now (λ bytes. HasImage left (Recovers v log))
+    lost_one was None left w v log same tells one = tt
+    lost_one None (Some now) left w v log same tells one = absurd (some_not_none now tells)
+    lost_one (Some bytes) (Some now) left w v log same tells one =
+        record { image = one.image; is_image = one.is_image; has = inr (subst (λ (n : ℕ). File n log one.image) same one.has) }
 
   -- the same, where a fault tells of the disk
   pub keeps_fault : (edges : List Edge) (old : LogState D) (fault : LogFault D) (disk : D) → fault ≡ faulty.Disk disk → Appends device edges old (Err fault) →

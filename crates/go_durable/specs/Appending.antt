@@ -3,13 +3,13 @@ use Rattle.std.specs.Prelude.{◌≡◌, ℕ, ◌+◌, List, [], ◌∷◌, ◌+
 use Rattle.go_text.specs.Causes.{Rose}
 use Rattle.go_word.specs.declared.edge.Edge.{Edge}
 use Rattle.go_disk.specs.Device.{Device}
-use Rattle.go_disk.specs.Disk.{StaysTold}
 use Rattle.go_blocks.specs.File.{File}
 use Rattle.go_durable.specs.declared.fault.LogFault.{LogFault}
 use Rattle.go_durable.specs.declared.fault.LogFault.TheVariants.{Disk, Memory}
 use Rattle.go_durable.specs.LogState.{LogState}
 use Rattle.go_durable.specs.Recovery.{IsBeforeOrAfter}
 use Rattle.go_durable.specs.Standing.{IsLog}
+use Rattle.go_durable.specs.Writing.{TellsOn}
 
 -- the disk, whatever was answered
 abbrev pub disk_after : {D : Type 0} → Result (LogState D) (LogFault D) → D
@@ -23,7 +23,7 @@ pub record IsLongerBy {D : Type 0} (device : Device D) (edges : List Edge) (old 
   pub vertices_are : new.vertices ≡ old.vertices
   pub so_many : new.front ≡ old.front + length edges
   pub one_block : new.places ≡ old.places ++ record { gate = old.gate; count = length edges } ∷ []
-  pub told : (log : List Edge) → IsLog device old log → StaysTold (λ a b. Unit {0}) (device.contents old.disk) (device.contents new.disk)
+  pub told : (log : List Edge) → IsLog device old log → TellsOn device old.disk new.disk
 
 -- some image has this
 pub record HasImage (images : List ℕ → Type 0) (P : List ℕ → Type 0) : Type 0 where
@@ -36,6 +36,7 @@ pub record HasImage (images : List ℕ → Type 0) (P : List ℕ → Type 0) : T
 pub record IsSpent {D : Type 0} (device : Device D) (edges : List Edge) (old : LogState D) (disk : D) : Type 0 where
   pub each : (log : List Edge) → IsLog device old log → (image : List ℕ) → device.images disk image → IsBeforeOrAfter old.vertices log edges image
   pub one : (log : List Edge) → IsLog device old log → IfSome (device.contents old.disk) (λ bytes. HasImage (device.images disk) (File old.vertices log))
+  pub told : TellsOn device old.disk disk
 
 -- what is answered: a longer log, a spent one where the count of faults rose, or for want of memory the log as it was
 abbrev pub Appends : {D : Type 0} → Device D → List Edge → LogState D → Result (LogState D) (LogFault D) → Type 0

@@ -47,10 +47,11 @@ pub record HasFirst {D : Type 0} (device : Device D) (v : ℕ) (log : List Edge)
   pub vertices_are : kept.vertices ≡ v
   pub told : IfSome (device.contents opened) (λ bytes. IsSome (device.contents kept.disk))
 
--- of a journal that was spent each image has at least the durable entries, and one has just these
+-- of a journal that was spent each image has at least the durable entries, and one, where the disk tells, just these
 pub record HasLost {D : Type 0} (device : Device D) (v : ℕ) (log : List Edge) (opened disk : D) (front : ℕ) : Type 0 where
   pub each : (image : List ℕ) → device.images disk image → RecoversPart v front log image
-  pub one : IfSome (device.contents opened) (λ bytes. HasImage (device.images disk) (Recovers v (take front log)))
+  pub told : IfSome (device.contents opened) (λ bytes. IsSome (device.contents disk))
+  pub one : IfSome (device.contents disk) (λ bytes. HasImage (device.images disk) (Recovers v (take front log)))
   pub rose : Rose (device.faults opened) (device.faults disk)
 
 -- what a journal has of the log

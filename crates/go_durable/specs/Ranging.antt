@@ -12,6 +12,7 @@ use Rattle.go_durable.specs.declared.fault.LogFault.TheVariants.{Disk, Memory}
 use Rattle.go_durable.specs.Appending.{HasImage}
 use Rattle.go_durable.specs.LogState.{LogState, entries_at}
 use Rattle.go_durable.specs.Standing.{IsLog}
+use Rattle.go_durable.specs.Writing.{TellsOn}
 
 -- a range that is asked for, from one place in the log up to another, and the list that it is added to: before it was read, and after
 pub record Asked : Type 0 where
@@ -50,6 +51,7 @@ pub record HasReadRange {D : Type 0} (device : Device D) (asked : Asked) (old ne
 pub record IsReadSpent {D : Type 0} (device : Device D) (old : LogState D) (disk : D) : Type 0 where
   pub each : (log : List Edge) → IsLog device old log → (image : List ℕ) → device.images disk image → File old.vertices log image
   pub one : (log : List Edge) → IsLog device old log → IfSome (device.contents old.disk) (λ bytes. HasImage (device.images disk) (File old.vertices log))
+  pub told : TellsOn device old.disk disk
 
 -- what is answered: the same log, a spent one where the count of faults rose, or for want of memory the log as it was
 abbrev pub ReadsRange : {D : Type 0} → Device D → Asked → LogState D → Result (LogState D) (LogFault D) → Type 0

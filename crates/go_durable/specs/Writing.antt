@@ -14,6 +14,10 @@ IsThere contents at = IfSome contents (λ bytes. at ≤ length bytes)
 abbrev pub IsTornOf : Option (List ℕ) → ℕ → ℕ → List ℕ → Type 0
 IsTornOf contents at n image = IsSomeAnd contents (λ bytes. Torn at n bytes image)
 
+-- a disk that tells still tells, and one that doesn't still doesn't
+abbrev pub TellsOn : {D : Type 0} → Device D → D → D → Type 0
+TellsOn device old new = StaysTold (λ a b. Unit {0}) (device.contents old) (device.contents new)
+
 -- these bytes were written, and nothing is pending
 pub record IsWritten {D : Type 0} (device : Device D) (at : ℕ) (bytes : List ℕ) (old new : D) : Type 0 where
   pub quiet : IsQuiet device new
@@ -38,7 +42,7 @@ IsShutOrOpened (Some bytes) end front inner image = IsStillShut (length bytes) e
 -- the gate was opened in front of its body, and nothing is pending
 pub record IsOpenedOn {D : Type 0} (device : Device D) (front inner : List ℕ) (old new : D) : Type 0 where
   pub shut : IsShut device (front ++ OPEN ∷ inner) new
-  pub told : StaysTold (λ a b. Unit {0}) (device.contents old) (device.contents new)
+  pub told : TellsOn device old new
 
 -- what can't be lost is told where the disk told, and closed by this front
 abbrev pub StaysShut : Option (List ℕ) → Option (List ℕ) → List ℕ → Type 0

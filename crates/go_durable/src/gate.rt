@@ -4,7 +4,7 @@ ghost use Rattle.go_text.specs.Causes.{HasCause};
 ghost use Rattle.go_blocks.specs.declared.layout.TheConstants.{CLOSED};
 ghost use Rattle.go_durable.specs.Moments.{LeavesOnly};
 ghost use Rattle.go_durable.specs.Standing.{IsShut};
-ghost use Rattle.go_durable.specs.Writing.{IsShutOrOpened, IsOpenedOn, StaysShut};
+ghost use Rattle.go_durable.specs.Writing.{IsShutOrOpened, IsOpenedOn, StaysShut, TellsOn};
 
 use crate::through::write_through;
 use go_blocks::OPEN;
@@ -23,6 +23,7 @@ pub(crate) fn open_behind<D: Disk>(disk: &mut D, gate: u64, body: &[u8]) -> Resu
         OnOk result (IsOpenedOn D.device front inner disk.old disk.new) }
     ensures failed { (front : List ℕ) → IsShut D.device front disk.old → gate ≡ length front →
         OnErr result (StaysShut (D.device.contents disk.old) (D.device.base disk.new) front) }
+    ensures told { TellsOn D.device disk.old disk.new }
     ensures cause { HasCause (D.device.faults disk.old) (D.device.faults disk.new) result }
 {
     let Ok(()) = write_through(disk, gate + 1, body) else {

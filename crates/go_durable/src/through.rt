@@ -3,7 +3,7 @@ ghost use Rattle.std.specs.Prelude.{◌≡◌, List, ℕ, length, OnErr, OnOk};
 ghost use Rattle.go_text.specs.Causes.{HasCause};
 ghost use Rattle.go_durable.specs.Moments.{LeavesOnly};
 ghost use Rattle.go_durable.specs.Standing.{IsQuiet};
-ghost use Rattle.go_durable.specs.Writing.{IsThere, IsTornOf, IsWritten};
+ghost use Rattle.go_durable.specs.Writing.{IsThere, IsTornOf, IsWritten, TellsOn};
 
 use go_disk::{Disk, Failed};
 
@@ -14,6 +14,7 @@ pub(crate) fn write_through<D: Disk>(disk: &mut D, at: u64, bytes: &[u8]) -> Res
     ensures done { IsQuiet D.device disk.old →
         OnOk result (IsWritten D.device at bytes.now disk.old disk.new) }
     ensures failed { IsQuiet D.device disk.old → OnErr result (D.device.base disk.new ≡ D.device.contents disk.old) }
+    ensures told { TellsOn D.device disk.old disk.new }
     ensures cause { HasCause (D.device.faults disk.old) (D.device.faults disk.new) result }
 {
     let Ok(()) = disk.write_at(at, bytes) else {

@@ -1,5 +1,5 @@
 -- For callers that give the log's file back: what a journal keeps of a log is what the ring asks of what comes back.
-use Rattle.std.proofs.Common.{◌≡◌, ℕ, ◌+◌, ◌-◌, ◌^◌, ◌<◌, ◌≤◌, true, List, [], ◌∷◌, length, take, drop, refl, sym, ap, ◌∙◌, inr, arith, subst}
+use Rattle.std.proofs.Common.{◌≡◌, ℕ, ◌+◌, ◌-◌, ◌≤◌, true, List, [], ◌∷◌, length, take, drop, refl, sym, ap, ◌∙◌, inr, arith, subst}
 use Rattle.std.specs.Prelude.{min, max, Option, None, Some, IfSome, IsSome}
 use Rattle.std.proofs.lemmas.List.{length-take, length-take-le, length-drop}
 use Rattle.go_text.specs.Causes.{Rose}

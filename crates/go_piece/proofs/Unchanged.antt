@@ -1,5 +1,5 @@
 -- For callers that give a piece back as it was, or a shard as another: what is left to be known.
-use Rattle.std.proofs.Common.{◌≡◌, ℕ, ◌+◌, ◌<◌, true, List, take, refl, arith}
+use Rattle.std.proofs.Common.{◌≡◌, ℕ, ◌+◌, true, List, take, refl, arith}
 use Rattle.go_word.specs.declared.edge.Edge.{Edge}
 use Rattle.go_text.specs.Causes.{Rose}
 use Rattle.go_core.specs.Frame.{Frame}

@@ -40,7 +40,8 @@ module _ {D : Type 0} (device : Device D) (vertices first : ℕ) (log more : Lis
   }
   durable_longer opened (journals.Spent disk front) within has = record {
     each = λ image is_image. part_longer front image (has.each image is_image);
-    one = subst (λ (l : List Edge). IfSome (device.contents opened) (λ bytes. HasImage (device.images disk) (Recovers vertices l)))
+    told = has.told;
+    one = subst (λ (l : List Edge). IfSome (device.contents disk) (λ bytes. HasImage (device.images disk) (Recovers vertices l)))
         (sym (take-append-le front log more within)) has.one;
     rose = has.rose;
   }

@@ -30,6 +30,7 @@ module _ {D : Type 0} (device : Device D) (v first : ℕ) (log more : List Edge)
   }
   has_longer (Spent disk front) within has = record {
     each = λ image is_image. part_of_longer front image (has.each image is_image);
+    told = has.told;
     one = rw (take-append-le front log more within) has.one;
     rose = has.rose;
   }

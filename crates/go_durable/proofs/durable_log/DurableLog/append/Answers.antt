@@ -7,7 +7,7 @@ use Rattle.go_word.specs.declared.edge.Edge.{Edge}
 use Rattle.go_durable.specs.Moments.{LeavesOnly}
 use Rattle.go_durable.specs.Recovery.{IsBeforeOrAfter}
 use Rattle.go_durable.specs.Standing.{IsShut, IsLog}
-use Rattle.go_durable.specs.Writing.{IsShutOrOpened, IsOpenedOn, StaysShut}
+use Rattle.go_durable.specs.Writing.{IsShutOrOpened, IsOpenedOn, StaysShut, TellsOn}
 use Rattle.go_durable.proofs.Growing.{append_moments, append_spends, append_grows, sound_more}
 use Rattle.go_durable.proofs.durable_log.DurableLog.append.Given.{Over}
 use Rattle.go_durable.proofs.durable_log.DurableLog.append.Goals.{After-open_behind}
@@ -37,7 +37,8 @@ returns-in_default-open_behind-clause-answer g c = (
       g.met.D.Disk.rules (ap (λ k. k.gate) c.self.view_is) (returns-in_default-open_behind-clause-moments g c)
       (subst (λ (d : g.row.D.Denot). (front : List ℕ) → IsShut g.D.Disk.device front d → c.self.inside.gate ≡ length front
       → StaysShut (g.D.Disk.device.contents d) (g.D.Disk.device.base c.open_behind.new.disk) front)
-      (ap (λ k. k.disk) c.self.view_is) c.in_default-open_behind.ensures.failed),
+      (ap (λ k. k.disk) c.self.view_is) c.in_default-open_behind.ensures.failed)
+      (subst (λ (d : g.row.D.Denot). TellsOn g.D.Disk.device d c.open_behind.new.disk) (ap (λ k. k.disk) c.self.view_is) c.open_behind.ensures.told),
 )
 
 pub returns-clause-moments : goal.returns-clause-moments
