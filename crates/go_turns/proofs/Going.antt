@@ -1,111 +1,64 @@
 -- For callers: a seat has gone on after each step of the ring, and after a part that it took was given back with the pins that it had.
-use Rattle.std.proofs.Common.{◌≡◌, ◌≢◌, ◌↔◌, ℕ, suc, ◌≤◌, Bool, true, false, cond, List, [], ◌∷◌, length, take_all, sym, refl, ap, ◌∙◌, ⊎_elim, arith, subst}
-use Rattle.std.specs.Prelude.{All, Contains, find, filter, nat_lt, not, ◌||◌, ◌==◌, Some, Option as Maybe}
-use Rattle.std.proofs.lemmas.Bool.{cases_Bool, or_cases, false≢true}
+use Rattle.std.proofs.Common.{◌≡◌, ◌≢◌, ◌↔◌, ℕ, ◌≤◌, true, false, List, [], length, take_all, sym, refl, ap, ◌∙◌, ⊎_elim, arith, subst}
+use Rattle.std.specs.Prelude.{All, Contains, filter, nat_lt, ◌||◌, ◌==◌, Option as Maybe}
+use Rattle.std.proofs.lemmas.Bool.{cases_Bool}
 use Rattle.std.proofs.lemmas.Bool.Decides.{nat_tests}
-use Rattle.std.proofs.lemmas.Option.{same_Some}
-use Rattle.std.proofs.lemmas.List.Elements.{All-nil, All-cons, All-weaker, All-contains, All-contains_itself, All-filter, filter_passes}
+use Rattle.std.proofs.lemmas.List.Elements.{All-weaker, All-contains, All-contains_itself}
 use Rattle.atomic_table.specs.Table.{Me, Step}
 use Rattle.go_word.specs.declared.edge.Edge.{Edge}
 use Rattle.go_word.specs.declared.pin.Pin.{Pin}
-use Rattle.go_word.specs.Pins.{is_named, has_name}
 use Rattle.go_core.specs.declared.part.PartState.{PartState}
 use Rattle.go_core.specs.Frame.{Frame}
-use Rattle.go_core.specs.Parts.{AreNamed, IsShardPlace}
-use Rattle.go_core.specs.Pins.{owns_name, is_own_or_new}
-use Rattle.go_core.proofs.PinCalls.{all_found}
-use Rattle.go_core.proofs.PinLaws.{has-in, has-pin}
+use Rattle.go_core.specs.Parts.{IsShardPlace}
+use Rattle.go_core.specs.Pins.{is_own_or_new}
 use Rattle.go_rule.specs.declared.view.Note.{Note}
 use Rattle.go_rule.specs.declared.view.SeatView.{SeatView}
 use Rattle.go_rule.specs.Meaning.{Meaning}
 use Rattle.go_rule.specs.Rule.{Begins, pins_at}
 use Rattle.go_rule.specs.Steps.{LoadsHead, LoadsArchived, LoadsDurable, LoadsFlag, StoresArchived, StoresDurable}
 use Rattle.go_rule.specs.Turns.{giving, own_pins, taking}
-use Rattle.go_rule.specs.Views.{with_unmoved}
+use Rattle.go_rule.specs.Views.{with_head, with_archived, with_durable, with_flag, with_unmoved, with_archiving, with_flushing}
 use Rattle.go_rule.proofs.Lists.{is_number}
 use Rattle.go_rule.proofs.TurnPins.{pins_here, pins_else}
-use Rattle.go_turns.specs.Going.{but_known, KnowsMore, HasGoneOn}
+use Rattle.go_turns.specs.Going.{but_known, KnowsMore, SamePins, HasGoneOn}
 use Rattle.go_turns.specs.Holding.{Takes, Gives}
 use Rattle.go_turns.proofs.Handing.{told_of, view_is, holds_on}
 use Rattle.go_turns.proofs.Later.{begins_before}
+use Rattle.go_turns.proofs.OwnPins.{own_unchanged}
 
 -- a log begins with itself
 begins_itself : (log : List Edge) → Begins log log
 begins_itself log = sym (take_all (length log) log (omega arith))
 
--- what passes a test is what stands in the list and passes
-module _ {A : Type 0} (test : A → Bool) where
-  passing : (xs : List A) (x : A) → Contains (filter test xs) x → Contains xs x × (test x ≡ true)
-  passing xs x there = (
-    All-contains (Contains xs) (filter test xs) x (All-filter test (Contains xs) xs (All-contains_itself xs)) there,
-    All-contains (λ y. test y ≡ true) (filter test xs) x (filter_passes test xs) there,
-  )
-
-  -- and each that does is left
-  kept_first : (b : Bool) (x : A) (xs : List A) → b ≡ true → Contains (cond b (x ∷ xs) xs) x
-  kept_first true x xs is = (0, omega arith, refl)
-  kept_first false x xs is = absurd (false≢true is)
-
-  kept_later : (b : Bool) (y x : A) (xs : List A) → Contains xs x → Contains (cond b (y ∷ xs) xs) x
-  kept_later true y x xs there = let within = there.1 in (suc there.0, omega arith, there.2)
-  kept_later false y x xs there = there
-
-  all_left : (xs : List A) → All (λ x. test x ≡ true → Contains (filter test xs) x) xs
-  all_left [] = All-nil (λ x. test x ≡ true → Contains [] x)
-  all_left (y ∷ ys) =
-      All-cons (λ x. test x ≡ true → Contains (filter test (y ∷ ys)) x) y ys (λ passes. kept_first (test y) y (filter test ys) passes)
-      (All-weaker (λ x. test x ≡ true → Contains (filter test ys) x) (λ x. test x ≡ true → Contains (filter test (y ∷ ys)) x)
-      (λ x left passes. kept_later (test y) y x (filter test ys) (left passes)) ys (all_left ys))
-
-  left : (xs : List A) (x : A) → Contains xs x → test x ≡ true → Contains (filter test xs) x
-  left xs x there = All-contains (λ y. test y ≡ true → Contains (filter test xs) y) xs x (all_left xs) there
-
--- the pins of a shard that are a seat's, by their names, are those that it had, where the shard has all of these
-pub own_unchanged : (mine old : List Pin) → AreNamed old → All (Contains old) mine → (pin : Pin)
-    → Contains (filter (is_own_or_new mine [] old) old) pin ↔ Contains mine pin
-own_unchanged mine old names has pin = (out, into)
-  where
-    found : (p : Pin) → Contains old p → find (is_named p.id) old ≡ Some p
-    found p there = All-contains (λ q. find (is_named q.id) old ≡ Some q) old p (all_found old names) there
-
-    out : Contains (filter (is_own_or_new mine [] old) old) pin → Contains mine pin
-    out there =
-        let both = passing (is_own_or_new mine [] old) old pin there in
-        let known : has_name pin.id old ≡ true = has-in old pin both.0 in
-        let own : has_name pin.id mine ≡ true =
-        ⊎_elim (λ (owned : owns_name pin.id mine [] ≡ true). ⊎_elim (λ is. is) (λ none. absurd (false≢true none)) (or_cases (has_name pin.id mine) false owned))
-        (λ (new : not (has_name pin.id old) ≡ true). absurd (false≢true (sym (ap not known) ∙ new)))
-        (or_cases (owns_name pin.id mine []) (not (has_name pin.id old)) both.1)
-        in
-        let one = has-pin pin.id mine own in
-        let named : find (is_named one.0.id) old ≡ Some one.0 = found one.0 (All-contains (Contains old) mine one.0 has one.1) in
-        let same : one.0 ≡ pin = same_Some one.0 pin (sym named ∙ ap (λ n. find (is_named n) old) one.2 ∙ found pin both.0) in
-        subst (Contains mine) same one.1
-
-    into : Contains mine pin → Contains (filter (is_own_or_new mine [] old) old) pin
-    into there =
-        let here = All-contains (Contains old) mine pin has there in
-        let own : is_own_or_new mine [] old pin ≡ true = ap (λ b. (b || false) || not (has_name pin.id old)) (has-in mine pin there) in
-        left (is_own_or_new mine [] old) old pin here own
-
 module _ {P : Type 0} where
+  -- by each of its numbers a seat knows no less
+  knows_by : (d e : SeatView P) → Begins e.told.seen d.told.seen → d.core.seen ≤ e.core.seen → d.core.taken ≤ e.core.taken → d.core.head ≤ e.core.head
+      → d.core.archived ≤ e.core.archived → d.core.durable ≤ e.core.durable → d.told.passed ≤ e.told.passed
+      → (d.told.flagged ≡ true → e.told.flagged ≡ true) → KnowsMore d e
+  knows_by d e begins seen taken head archived durable passed flagged =
+      record {
+        begins = begins;
+        seen = seen;
+        taken = taken;
+        head = head;
+        archived = archived;
+        durable = durable;
+        passed = passed;
+        flagged = flagged;
+      }
+
+  -- a seat has the pins that it has
+  same_itself : (f : Frame) (d : SeatView P) → SamePins f d d
+  same_itself f d place here pin = (λ there. there, λ there. there)
+
   -- a seat that did nothing
   pub gone_nowhere : (f : Frame) (d : SeatView P) → HasGoneOn f d d
   gone_nowhere f d =
       record {
         knows =
-            record {
-              begins = begins_itself d.told.seen;
-              seen = omega arith;
-              taken = omega arith;
-              head = omega arith;
-              archived = omega arith;
-              durable = omega arith;
-              passed = omega arith;
-              flagged = λ is. is;
-            };
+            knows_by d d (begins_itself d.told.seen) (omega arith) (omega arith) (omega arith) (omega arith) (omega arith) (omega arith) (λ is. is);
         rest = refl;
-        pins = λ place here pin. (λ there. there, λ there. there);
+        pins = same_itself f d;
       }
 
   -- and one that went on twice
@@ -151,18 +104,9 @@ module _ {P : Type 0} where
   gone_unmoved f d =
       record {
         knows =
-            record {
-              begins = begins_itself d.told.seen;
-              seen = omega arith;
-              taken = omega arith;
-              head = omega arith;
-              archived = omega arith;
-              durable = omega arith;
-              passed = omega arith;
-              flagged = λ is. is;
-            };
+            knows_by d (with_unmoved d) (begins_itself d.told.seen) (omega arith) (omega arith) (omega arith) (omega arith) (omega arith) (omega arith) (λ is. is);
         rest = refl;
-        pins = λ place here pin. (λ there. there, λ there. there);
+        pins = same_itself f d;
       }
 
   module _ {S : Type 0} (f : Frame) (step : Step S) (me now : Me S (SeatView P)) (n : ℕ) where
@@ -172,18 +116,9 @@ module _ {P : Type 0} where
         let known = loads.known in
         subst (HasGoneOn f me.0) (sym (ap (λ z. z.0) loads.becomes))
         (record {
-          knows = record {
-            begins = begins_itself me.0.told.seen;
-            seen = omega arith;
-            taken = omega arith;
-            head = known;
-            archived = omega arith;
-            durable = omega arith;
-            passed = omega arith;
-            flagged = λ is. is;
-          };
+          knows = knows_by me.0 (with_head n me.0) (begins_itself me.0.told.seen) (omega arith) (omega arith) known (omega arith) (omega arith) (omega arith) (λ is. is);
           rest = refl;
-          pins = λ place here pin. (λ there. there, λ there. there);
+          pins = same_itself f me.0;
         })
 
     -- the archived front was
@@ -192,18 +127,9 @@ module _ {P : Type 0} where
         let known = loads.front.known_to in
         subst (HasGoneOn f me.0) (sym (ap (λ z. z.0) loads.becomes))
         (record {
-          knows = record {
-            begins = loads.sees.begins;
-            seen = omega arith;
-            taken = omega arith;
-            head = omega arith;
-            archived = known;
-            durable = omega arith;
-            passed = omega arith;
-            flagged = λ is. is;
-          };
+          knows = knows_by me.0 (with_archived n loads.seen me.0) loads.sees.begins (omega arith) (omega arith) (omega arith) known (omega arith) (omega arith) (λ is. is);
           rest = refl;
-          pins = λ place here pin. (λ there. there, λ there. there);
+          pins = same_itself f me.0;
         })
 
     -- the durable front was
@@ -212,18 +138,9 @@ module _ {P : Type 0} where
         let known = loads.front.known_to in
         subst (HasGoneOn f me.0) (sym (ap (λ z. z.0) loads.becomes))
         (record {
-          knows = record {
-            begins = loads.sees.begins;
-            seen = omega arith;
-            taken = omega arith;
-            head = omega arith;
-            archived = omega arith;
-            durable = known;
-            passed = omega arith;
-            flagged = λ is. is;
-          };
+          knows = knows_by me.0 (with_durable n loads.seen me.0) loads.sees.begins (omega arith) (omega arith) (omega arith) (omega arith) known (omega arith) (λ is. is);
           rest = refl;
-          pins = λ place here pin. (λ there. there, λ there. there);
+          pins = same_itself f me.0;
         })
 
     -- the flag was
@@ -231,18 +148,9 @@ module _ {P : Type 0} where
     gone_flag loads =
         subst (HasGoneOn f me.0) (sym (ap (λ z. z.0) loads.becomes))
         (record {
-          knows = record {
-            begins = begins_itself me.0.told.seen;
-            seen = omega arith;
-            taken = omega arith;
-            head = omega arith;
-            archived = omega arith;
-            durable = omega arith;
-            passed = omega arith;
-            flagged = λ is. ap (λ b. b || nat_lt 0 n) is;
-          };
+          knows = knows_by me.0 (with_flag n me.0) (begins_itself me.0.told.seen) (omega arith) (omega arith) (omega arith) (omega arith) (omega arith) (omega arith) (λ is. ap (λ b. b || nat_lt 0 n) is);
           rest = refl;
-          pins = λ place here pin. (λ there. there, λ there. there);
+          pins = same_itself f me.0;
         })
 
     -- the archived front was stored, further on
@@ -250,18 +158,9 @@ module _ {P : Type 0} where
     gone_archiving onward stores =
         subst (HasGoneOn f me.0) (sym (ap (λ z. z.0) stores))
         (record {
-          knows = record {
-            begins = begins_itself me.0.told.seen;
-            seen = omega arith;
-            taken = omega arith;
-            head = omega arith;
-            archived = onward;
-            durable = omega arith;
-            passed = omega arith;
-            flagged = λ is. is;
-          };
+          knows = knows_by me.0 (with_archiving n me.0) (begins_itself me.0.told.seen) (omega arith) (omega arith) (omega arith) onward (omega arith) (omega arith) (λ is. is);
           rest = refl;
-          pins = λ place here pin. (λ there. there, λ there. there);
+          pins = same_itself f me.0;
         })
 
     -- the durable front was
@@ -269,18 +168,9 @@ module _ {P : Type 0} where
     gone_flushing onward stores =
         subst (HasGoneOn f me.0) (sym (ap (λ z. z.0) stores))
         (record {
-          knows = record {
-            begins = begins_itself me.0.told.seen;
-            seen = omega arith;
-            taken = omega arith;
-            head = omega arith;
-            archived = omega arith;
-            durable = onward;
-            passed = omega arith;
-            flagged = λ is. is;
-          };
+          knows = knows_by me.0 (with_flushing n me.0) (begins_itself me.0.told.seen) (omega arith) (omega arith) (omega arith) (omega arith) onward (omega arith) (λ is. is);
           rest = refl;
-          pins = λ place here pin. (λ there. there, λ there. there);
+          pins = same_itself f me.0;
         })
 
 -- numbers that differ by a test
@@ -325,29 +215,11 @@ module _ {P : Type 0} (m : Meaning P) (f : Frame) (place : ℕ) (old new : P) (m
       knows_taken : KnowsMore me.0 now.0
       knows_taken =
           subst (KnowsMore me.0) (sym view)
-          (record {
-            begins = begins_itself me.0.told.seen;
-            seen = omega arith;
-            taken = omega arith;
-            head = omega arith;
-            archived = omega arith;
-            durable = omega arith;
-            passed = omega arith;
-            flagged = λ is. is;
-          })
+          (knows_by me.0 (taking place old me.0) (begins_itself me.0.told.seen) (omega arith) (omega arith) (omega arith) (omega arith) (omega arith) (omega arith) (λ is. is))
 
       knows_giving : KnowsMore then.0 given
       knows_giving =
-          record {
-            begins = begins_itself then.0.told.seen;
-            seen = omega arith;
-            taken = omega arith;
-            head = omega arith;
-            archived = omega arith;
-            durable = omega arith;
-            passed = omega arith;
-            flagged = λ is. is;
-          }
+          knows_by then.0 given (begins_itself then.0.told.seen) (omega arith) (omega arith) (omega arith) (omega arith) (omega arith) (omega arith) (λ is. is)
 
       -- with the part in hand the pins were as before
       meanwhile : (other : ℕ) → IsShardPlace f other → (pin : Pin) → Contains (pins_at other then.0) pin ↔ Contains (pins_at other me.0) pin

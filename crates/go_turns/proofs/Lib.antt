@@ -1,4 +1,5 @@
 -- The lemmas on turns.
+pub mod OwnPins
 pub mod Going
 pub mod Handing
 pub mod Unchanged
