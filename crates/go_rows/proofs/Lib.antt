@@ -1,0 +1,2 @@
+-- Lemmas on rows side by side.
+pub mod RowsLemmas
