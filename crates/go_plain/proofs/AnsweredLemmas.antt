@@ -1,9 +1,10 @@
 -- What the calls of a session answer, by how the store is left.
-use Rattle.std.proofs.Common.{◌≡◌, ℕ, ◌+◌, ◌-◌, ◌<◌, ◌≤◌, true, List}
-use Rattle.std.proofs.Common.{length, take, drop, set, get_or, refl, ap, arith, sym, subst, ◌∙◌}
+use Rattle.std.proofs.Common.{◌≡◌, ℕ, ◌+◌, ◌<◌, ◌≤◌, true, List}
+use Rattle.std.proofs.Common.{length, take, drop, set, get_or, slice_get, Some, refl, ap, arith, sym, subst, ◌∙◌}
 use Rattle.std.proofs.Common.{take_all, ◌==◌}
 use Rattle.std.specs.Prelude.{All, min}
 use Rattle.std.proofs.lemmas.List.{length-take-le, take-take}
+use Rattle.std.proofs.lemmas.Option.{get_or_from_slice_get}
 use Rattle.go_word.specs.declared.edge.Edge.{Edge}
 use Rattle.go_api.specs.Standing.{Standing, IsSound}
 use Rattle.go_api.specs.Calls.{IsFront, IsPlacedAt, IsViewed}
@@ -179,6 +180,13 @@ module _ {D : Type 0} (device : Device D) where
       let within = shown_within seat.places place front seat.seen sound.count sound.shown held in
       is ∙ ap (λ (l : List Edge). neighbours l vertex) (sym (take-take front seat.seen store.log within)
       ∙ ap (λ (n : ℕ). take n (take seat.seen store.log)) same)
+
+  -- the same where a view stands at the place
+  pub listed_at : (store : PlainState D) (number place vertex front : ℕ) (list : List ℕ) → IsSound (standing_of device store number) →
+      slice_get (seat_at store.seats number).places place ≡ Some (View front) → list ≡ neighbours (take front store.log) vertex →
+      IsListAt place vertex (standing_of device store number) list
+  listed_at store number place vertex front list sound held is =
+      listed store number place vertex front list sound (get_or_from_slice_get (seat_at store.seats number).places place (View front) Free held) is
 
   -- a stop for want of memory
   pub memory_stops : (store : PlainState D) (number : ℕ) → IsReadStopped stops.Memory (standing_of device store number) (standing_of device store number)

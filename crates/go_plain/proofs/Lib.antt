@@ -15,6 +15,7 @@ pub mod AnsweredLemmas
 pub mod ShortLemmas
 pub mod NewLemmas
 pub mod LeastLemmas
+pub mod FrontRowsLemmas
 pub mod ReadingLemmas
 pub mod PutLemmas
 pub mod GoingLemmas

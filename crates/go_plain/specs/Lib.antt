@@ -6,6 +6,7 @@ pub mod Views
 pub mod Seats
 pub mod Owners
 pub mod Plain
+pub mod FrontRows
 pub mod Past
 pub mod GoingOn
 pub mod Fields

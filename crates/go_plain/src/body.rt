@@ -6,6 +6,7 @@ ghost use Rattle.go_plain.specs.Plain.{standing_of, HasSession, IsStore, StaysSt
 ghost use Rattle.go_plain.specs.Plain.{MaySit, pushed};
 ghost use Rattle.go_plain.specs.Seats.{seat_at, seats_with};
 
+use crate::front_rows::FrontRows;
 use crate::ring::Ring;
 use crate::scratch::Scratch;
 use crate::seat::{Seat, give_seat, spend};
@@ -40,12 +41,14 @@ pub struct Body<D: Disk> {
     // by session, the first one at the front
     pub(crate) seats: Vec<Seat>,
     // kept from one question to the next
+    pub(crate) rows: FrontRows,
     pub(crate) scratch: Scratch,
 }
 
 impl<D: Disk> Model for Body<D> {
     ghost use Rattle.std.specs.Prelude.{IsSome};
     ghost use Rattle.go_plain.specs.Plain.{PlainState, IsPlain};
+    ghost use Rattle.go_plain.specs.FrontRows.{AreRowsOf};
 
     ghost Value = { PlainState D };
 
@@ -53,7 +56,7 @@ impl<D: Disk> Model for Body<D> {
 
     ghost view = { store_of };
 
-    ghost invariant = { λ s. IsSome s.journal × IsPlain D.device (store_of s) s.ring s.shards.items };
+    ghost invariant = { λ s. IsSome s.journal × IsPlain D.device (store_of s) s.ring s.shards.items × AreRowsOf (store_of s).log s.rows };
 }
 
 impl<D: Disk> Body<D> {

@@ -9,11 +9,14 @@
 //! made leaves a part of the log with all that was there at opening.
 //! Entries are moved out of the ring where it is full, where a session syncs or compacts, and at the end: all of them, to the file
 //! in blocks of at most 65,536 and then to the shards, which keep the front of each view.
+//! A front that is asked again and again has the neighbours of all vertices side by side (src/front_rows.rt), of which no answer tells.
 //! Left out: which session puts when.
 //! docs/ARCHITECTURE.md follows an edge through it.
 #![tactic(auto)]
 
 mod body;
+mod front_rows;
+mod listing;
 mod looking;
 mod making;
 mod putting;
@@ -35,5 +38,7 @@ pub use store::PlainStore;
 mod calls_tests;
 #[cfg(test)]
 mod fixture;
+#[cfg(test)]
+mod rows_tests;
 #[cfg(test)]
 mod tests;

@@ -39,8 +39,10 @@ impl<D: Disk> Body<D> {
         ensures became { GoesOnBy D.device number self.old self.new }
     {
         self.check();
-        let seat = self.seat(number).holding(place, Place::Free);
+        let older = self.seat(number);
+        let seat = older.holding(place, Place::Free);
         self.set_seat(number, seat);
+        self.forget_rows(older.places[place as usize]);
     }
 
     /// Starts a stream at a place of a session, behind all entries, and answers where.

@@ -6,6 +6,7 @@ ghost use Rattle.go_plain.specs.Plain.{AreQuotas, IsPlainSetup, made_of};
 ghost use Rattle.go_shard.specs.Parts.{HaveParts};
 
 use crate::body::Body;
+use crate::front_rows::FrontRows;
 use crate::ring::Ring;
 use crate::scratch::Scratch;
 use crate::seat::new_seats;
@@ -67,6 +68,7 @@ impl<D: Disk> PlainStore<D> {
             ring,
             journal: Some(Journal::Sound { log }),
             seats,
+            rows: FrontRows::new(alloc),
             scratch: Scratch::new(alloc),
         };
         match Box::new(alloc, body) {

@@ -1,82 +1,19 @@
-// Reading what a plain store has: the neighbours in a view, and the entries of a stream.
-ghost use Rattle.std.specs.Prelude.{◌≡◌, ◌++◌, ◌-◌, ◌<◌, ◌≤◌, ◌^◌, List, ℕ, length, take, drop, true, is_some, Err, IfOk, OnOk};
-ghost use Rattle.go_api.specs.Calls.{CanRead, IsListAt, CanStream, Updates};
+// Reading the entries of a stream of a plain store.
+ghost use Rattle.std.specs.Prelude.{◌≡◌, ◌++◌, ◌≤◌, length, take, drop, true, Err, OnOk};
+ghost use Rattle.go_api.specs.Calls.{CanStream, Updates};
 ghost use Rattle.go_api.specs.Standing.{IsSound};
 ghost use Rattle.go_api.specs.declared.stop.Stop.TheVariants as stops;
 ghost use Rattle.go_durable.specs.Journal.{is_spent};
 ghost use Rattle.go_plain.specs.Plain.{standing_of, HasSession, GoesOnBy, StaysStore, IsOnlyFlushed, AddsLog, ReadsLog};
 
 use crate::body::Body;
-use crate::scratch::Scratch;
 use go_api::{Place, Span, Stop};
 use go_disk::Disk;
 use go_durable::Ranged;
-use go_shard::list_neighbours;
 use go_word::Edge;
 use std::alloc::AllocError;
 
 impl<D: Disk> Body<D> {
-    /// Gives the neighbours of a vertex in the view at a place of a session into `out`.
-    pub fn neighbours(
-        &mut self,
-        number: u8,
-        place: u8,
-        vertex: u32,
-        out: &mut Vec<u32>,
-    ) -> Result<(), AllocError>
-        requires session { HasSession self.old number }
-        requires can { CanRead place vertex (standing_of D.device self.old number) }
-        ensures same { self.new ≡ self.old }
-        ensures lists { OnOk result (IsListAt place vertex (standing_of D.device self.old number) out.new.items) }
-        ensures short { OnOk result (length out.new.items < 2 ^ 32) }
-    {
-        let mut scratch = self.lend();
-        let listed = self.list(number, place, vertex, &mut scratch.words, out);
-        self.take_back(scratch);
-        listed
-    }
-
-    /// How many neighbours a vertex has in the view at a place of a session.
-    pub fn degree(&mut self, number: u8, place: u8, vertex: u32) -> Result<u32, AllocError>
-        requires session { HasSession self.old number }
-        requires can { CanRead place vertex (standing_of D.device self.old number) }
-        ensures same { self.new ≡ self.old }
-        ensures counts { IfOk result (λ degree. (list : List ℕ) →
-            IsListAt place vertex (standing_of D.device self.old number) list → degree ≡ length list) }
-    {
-        let mut scratch = self.lend();
-        let Scratch { words, list } = &mut scratch;
-        let listed = self.list(number, place, vertex, words, list);
-        let count = scratch.list.len();
-        self.take_back(scratch);
-        listed?;
-        Ok(count as u32)
-    }
-
-    // Gives the neighbours of a vertex in the view at a place of a session into `out`, by way of `words`.
-    fn list(
-        &self,
-        number: u8,
-        place: u8,
-        vertex: u32,
-        words: &mut Vec<u64>,
-        out: &mut Vec<u32>,
-    ) -> Result<(), AllocError>
-        requires session { HasSession self.now number }
-        requires can { CanRead place vertex (standing_of D.device self.now number) }
-        ensures lists { OnOk result (IsListAt place vertex (standing_of D.device self.now number) out.new.items) }
-        ensures short { OnOk result (length out.new.items < 2 ^ 32) }
-    {
-        let Place::View { front } = self.seat(number).places[place as usize] else {
-            unreachable!()
-        };
-        let settled = front.min(self.moved);
-        self.ring
-            .words_from(vertex, (front - settled) as usize, words)?;
-        let shard = &self.shards[(vertex % self.shards.len() as u32) as usize];
-        list_neighbours(self.alloc, shard, vertex, settled, words, out)
-    }
-
     /// Gives the next entries of the stream at a place of a session into `out`, so many at most.
     pub fn update(
         &mut self,

@@ -67,6 +67,14 @@ impl<D: Disk> PlainSession<D> {
     }
 }
 
+#[cfg(test)]
+impl<D: Disk> PlainSession<D> {
+    // How many rows of a front are listed.
+    pub(crate) fn rows(&self) -> usize {
+        self.body.rows.len()
+    }
+}
+
 impl<D: Disk> Store for PlainSession<D> {
     ghost use Rattle.go_plain.specs.Plain.{standing_of, HandleGoesOn, LooksAt};
     ghost use Rattle.go_plain.specs.GoingOn.{goes_on_same, goes_on_onwards};

@@ -1,8 +1,10 @@
 -- What `archive` keeps and leads to.
-use Rattle.std.proofs.Common.{◌≡◌, ℕ, List, length, map, refl, sym, ap, subst, ◌∙◌}
+use Rattle.std.proofs.Common.{◌≡◌, ℕ, List, length, map, sym, ap, subst, ◌∙◌}
 use Rattle.std.proofs.lemmas.Result.{err_from_is_err_and}
 use Rattle.go_durable.specs.Journal.{journal_front}
 use Rattle.go_shard.specs.Parts.{HaveParts}
+use Rattle.go_word.specs.declared.edge.Edge.{Edge}
+use Rattle.go_plain.specs.FrontRows.{AreRowsOf}
 use Rattle.go_plain.specs.Past.{log_of, owners_of}
 use Rattle.go_plain.specs.Plain.{PlainState}
 use Rattle.go_plain.specs.Ring.{RingState}
@@ -35,6 +37,7 @@ invariant_of-self-in_err-catch_up g c = (
   rw c.reserve.ensures.items (plain_shards g.D.Disk.device _ c.self.inside.ring c.self.inside.shards.items c.self.invariant.1
       (map (λ shard. shard.cut) c.catch_up.new.shards.items) c.catch_up.new.shards.items
       (parts g (goal.at.invariant_of-self-in_err-catch_up g c).After-catch_up)),
+  rw c.reserve.ensures.items c.self.invariant.2,
 )
 
 pub invariant_of-self-2 : goal.invariant_of-self-2
@@ -60,6 +63,8 @@ invariant_of-self-2 g c =
         same = log_kept c.self.inside.found.value.items old more ring c.clear.new.self past c.clear.ensures;
         same_owners = owners_kept old more ring c.clear.new.self past c.clear.ensures;
       }),
+      subst (λ (l : List Edge). AreRowsOf l c.self.inside.rows) (sym (log_kept c.self.inside.found.value.items old more ring c.clear.new.self past
+          c.clear.ensures)) c.self.invariant.2,
     )
 
 pub returns-clause-ok : goal.returns-clause-ok

@@ -38,6 +38,7 @@ invariant_of-self g c =
           (c.compact_all.ensures.parts c.self.inside.vertices (length c.self.inside.shards.items) c.self.inside.moved (all_views c.self.inside.seats.items) _
           c.self.invariant.1.arranged.parts
           (least_uncut c.self.inside.moved c.least_of-limit.result (all_views c.self.inside.seats.items) least)),
+      c.self.invariant.2,
     )
 
 pub returns-clause-stays : goal.returns-clause-stays

@@ -22,6 +22,7 @@ invariant_of-self g c =
       rw c.replace.ensures.after refl,
       rw kept (plain_flushed g.D.Disk.device _ c.self.inside.ring c.self.inside.shards.items c.self.invariant.1 edges new
           (lacks_next g.D.Disk.device _ c.self.inside.ring c.self.inside.shards.items c.self.invariant.1 edges are) on),
+      c.self.invariant.2,
     )
 
 pub returns-clause-only : goal.returns-clause-only

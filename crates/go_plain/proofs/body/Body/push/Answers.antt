@@ -1,8 +1,11 @@
 -- What `push` keeps and leads to.
-use Rattle.std.proofs.Common.{◌≡◌, ◌-◌, ◌≤◌, length, map, sym, ap, subst, ◌∙◌, arith}
+use Rattle.std.proofs.Common.{◌≡◌, ◌-◌, ◌≤◌, List, [], ◌∷◌, length, map, sym, ap, subst, ◌∙◌, arith}
 use Rattle.go_word.specs.Log.{IsWithin}
+use Rattle.go_word.specs.declared.edge.Edge.{Edge}
+use Rattle.go_plain.specs.FrontRows.{AreRowsOf}
+use Rattle.go_plain.proofs.FrontRowsLemmas.{rows_longer}
 use Rattle.go_plain.specs.Past.{log_of, owners_of}
-use Rattle.go_plain.specs.Plain.{PlainState, HasSession, pushed}
+use Rattle.go_plain.specs.Plain.{PlainState, HasSession}
 use Rattle.go_plain.specs.Ring.{RingState}
 use Rattle.go_plain.specs.Seats.{seat_at, seats_with}
 use Rattle.go_plain.proofs.ArrangedLemmas.{push_room}
@@ -51,6 +54,9 @@ invariant_of-self g c =
         longer = rw c.push.ensures (log_pushed c.self.inside.found.value.items past c.self.inside.ring c.args.edge c.args.number);
         owned = rw c.push.ensures (owners_pushed past c.self.inside.ring c.args.edge c.args.number);
       }) (spent g (goal.at.invariant_of-self g c).After-spend),
+      rw c.push.ensures (subst (λ (l : List Edge). AreRowsOf l c.self.inside.rows)
+          (sym (log_pushed c.self.inside.found.value.items past c.self.inside.ring c.args.edge c.args.number))
+          (rows_longer (log_of c.self.inside.found.value.items past c.self.inside.ring) (c.args.edge ∷ []) c.self.inside.rows c.self.invariant.2)),
     )
 
 pub returns-clause-put : goal.returns-clause-put

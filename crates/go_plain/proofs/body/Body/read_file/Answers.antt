@@ -1,5 +1,5 @@
 -- What `read_file` keeps and leads to.
-use Rattle.std.proofs.Common.{◌≡◌, ◌≤◌, [], length, map, refl, sym, ap, subst, ◌∙◌, arith}
+use Rattle.std.proofs.Common.{◌≤◌, [], length, map, refl, sym, ap, subst, ◌∙◌, arith}
 use Rattle.std.specs.Prelude.{Option}
 use Rattle.go_api.specs.declared.stop.Stop.{Stop}
 use Rattle.go_durable.specs.Journal.{Keeps, KeepsOn, journal_front}
@@ -30,6 +30,7 @@ invariant_of-self g c =
     let on = subst (λ (j : Journal _). KeepsOn g.D.Disk.device [] j new) (sym journal) c.read_range-journal.ensures.keeps in (
       rw c.replace.ensures.after refl,
       rw kept (plain_flushed g.D.Disk.device _ c.self.inside.ring c.self.inside.shards.items c.self.invariant.1 [] new refl on),
+      c.self.invariant.2,
     )
 
 pub returns-clause-only : goal.returns-clause-only

@@ -15,6 +15,7 @@ invariant_of-self g c =
       c.self.invariant.0,
       plain_seat g.D.Disk.device _ c.self.inside.ring c.self.inside.shards.items c.self.invariant.1 c.args.number c.args.seat c.give_seat.new.seats.items
           session may are,
+      c.self.invariant.2,
     )
 
 pub returns-clause-seat : goal.returns-clause-seat

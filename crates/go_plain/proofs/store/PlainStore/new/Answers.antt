@@ -1,11 +1,12 @@
 -- What a new store keeps.
-use Rattle.std.proofs.Common.{◌≡◌, List, [], length, refl, sym, ap, subst, ◌∙◌, arith}
+use Rattle.std.proofs.Common.{◌≡◌, List, [], length, refl, sym, ap, subst, arith}
 use Rattle.std.proofs.lemmas.List.{append-nil}
 use Rattle.go_word.specs.declared.edge.Edge.{Edge}
 use Rattle.go_durable.specs.LogState.{OpenedLog}
 use Rattle.go_shard.specs.Parts.{HaveParts}
 use Rattle.go_plain.specs.Plain.{AreQuotas}
 use Rattle.go_plain.specs.Ring.{RingState}
+use Rattle.go_plain.proofs.FrontRowsLemmas.{rows_new}
 use Rattle.go_plain.proofs.NewLemmas.{plain_new}
 use Rattle.go_plain.proofs.store.PlainStore.new.Goals as goal
 
@@ -36,4 +37,5 @@ invariant_of-body g c =
         append-nil c.opened.inside.edges.items,
         sym same,
       ) plain,
+      rows_new _ c.new-3.result c.new-3.ensures,
     )
