@@ -19,5 +19,6 @@ pub mod TakingLemmas
 pub mod PartLemmas
 pub mod LongerLemmas
 pub mod MakingLemmas
+pub mod CountLemmas
 pub mod ReadingLemmas
 mod WordsLemmas

@@ -1,6 +1,7 @@
 -- The definitions that the contracts of this crate cite.
 pub mod Lane
 pub mod Groups
+pub mod ByVertex
 pub mod Listing
 pub mod Batch
 pub mod Compacting

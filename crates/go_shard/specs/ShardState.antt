@@ -1,5 +1,5 @@
 -- What the contracts see of a shard.
-use Rattle.std.specs.Prelude.{◌≡◌, ◌==◌, ◌⊎◌, ℕ, ◌+◌, ◌^◌, ◌<◌, ◌≤◌, ◌/◌, ◌%◌, Bool, List, length, All}
+use Rattle.std.specs.Prelude.{◌≡◌, ◌==◌, ◌⊎◌, ℕ, ◌+◌, ◌^◌, ◌<◌, ◌≤◌, ◌/◌, ◌%◌, Bool, List, length, map, All}
 use Rattle.go_word.specs.declared.edge.Edge.{Edge}
 use Rattle.go_word.specs.declared.edge.TheConstants.{VERTEX_LIMIT}
 use Rattle.go_word.specs.declared.pin.Pin.{Pin}
@@ -52,6 +52,10 @@ pub record IsAtRest (cut front : ℕ) (lane : Lane) : Type 0 where
   pub at_cut : count_at lane.versions cut ≡ lane.floor
   pub at_front : count_at lane.versions front ≡ known lane
   pub retired : lane.retired ≤ cut
+
+-- how many entries a shard tells that each of its vertices had at a front, by their places
+abbrev pub counts_of : ShardState → ℕ → List ℕ
+counts_of shard front = map (λ (lane : Lane). count_at lane.versions front) shard.lanes
 
 -- a pin stands at a front that is kept, and not below the cut
 pub record IsPinned (shard : ShardState) (pin : Pin) : Type 0 where

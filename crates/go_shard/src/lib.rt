@@ -15,9 +15,11 @@
 
 mod batch;
 mod by_groups;
+mod by_vertex;
 mod catching_up;
 mod compacting;
 mod compacting_all;
+mod counting;
 mod fronts;
 mod groups;
 mod held;
@@ -32,6 +34,7 @@ mod store;
 mod striping;
 mod words;
 
+pub use by_vertex::ByVertex;
 pub use catching_up::catch_up;
 pub use compacting_all::compact_all;
 pub use fronts::FrontRange;

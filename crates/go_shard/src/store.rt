@@ -1,14 +1,16 @@
 // A shard of the vertices.
-ghost use Rattle.std.specs.Prelude.{◌≡◌, ℕ, ◌+◌, ◌-◌, ◌<◌, ◌≤◌, ◌^◌, [], ◌++◌, List, length, replicate, take, All, IfOk, OnOk, OnErr, true};
+ghost use Rattle.std.specs.Prelude.{◌≡◌, ℕ, ◌+◌, ◌-◌, ◌/◌, ◌<◌, ◌≤◌, ◌^◌, [], ◌++◌, List, length, replicate, take, slice_index, All, IfOk, OnOk, OnErr, true};
+ghost use Rattle.go_word.specs.declared.edge.TheConstants.{VERTEX_LIMIT};
 ghost use Rattle.go_word.specs.declared.edge.Edge.{Edge as Entry};
 ghost use Rattle.go_word.specs.Log.{IsWithin, raw, entries_from};
 ghost use Rattle.go_word.specs.Neighbours.{neighbours};
 ghost use Rattle.go_shard.specs.Lane.{empty_lane};
-ghost use Rattle.go_shard.specs.ShardState.{IsOf, Keeps, is_own, lane_of, told, IsAtRest};
+ghost use Rattle.go_shard.specs.ShardState.{IsOf, Keeps, is_own, lane_of, told, counts_of, IsAtRest};
 ghost use Rattle.go_shard.specs.Stands.{Stands, GoesOn, HasGrown, HasForgotten};
 
 use crate::batch::take_batch;
 use crate::compacting::compact_listed;
+use crate::counting::{add_counts, add_known};
 use crate::fronts::{FrontRange, forget_below};
 use crate::listing::forget_bare;
 use crate::slot::Slot;
@@ -158,6 +160,25 @@ impl Shard {
             slot.known()
         } else {
             slot.count_at(front)
+        }
+    }
+
+    /// Adds to `out` how many entries had left each vertex at a front that is kept, in the order of the vertices.
+    ///
+    /// After want of memory nothing is claimed of `out`.
+    pub fn counts_at(&self, front: u64, out: &mut Vec<u32>) -> Result<(), AllocError>
+        requires kept { Keeps self.now front }
+        requires uncut { self.now.cut ≤ front }
+        ensures counts { OnOk result (out.new.items ≡ out.old.items ++ counts_of self.now front) }
+        ensures places { length (counts_of self.now front) ≡ self.now.vertices / self.now.shards + 1 }
+        ensures each { (v : ℕ) → IsOf self.now v → slice_index (counts_of self.now front) (v / self.now.shards) ≡ told self.now v front }
+        ensures few { self.now.vertices ≤ VERTEX_LIMIT }
+        ensures small { self.now.front < 2 ^ 32 }
+    {
+        if front == self.front {
+            add_known(&self.slots, out)
+        } else {
+            add_counts(&self.slots, front, out)
         }
     }
 
