@@ -1,0 +1,6 @@
+-- `own_durable`: what the call picks.
+use Rattle.go_rule.specs.Views.{frame_of}
+use Rattle.go_workers.proofs.own_fronts.own_durable.Given as goal
+
+abbrev pub ghosts-own_durable_as : goal.ghosts-own_durable_as
+ghosts-own_durable_as g a = record { frame = frame_of a.ring.now.table.shared.key }

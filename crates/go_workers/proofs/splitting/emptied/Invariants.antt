@@ -1,0 +1,7 @@
+-- The loop of `emptied`.
+use Rattle.std.proofs.Common.{◌≡◌, [], map, replicate}
+use Rattle.go_workers.proofs.splitting.emptied.Given as goal
+
+-- as many empty lists as turns
+abbrev pub invariant-loop : goal.invariant-loop
+invariant-loop l = map (λ list. list.items) l.lists.items ≡ replicate l.counter []

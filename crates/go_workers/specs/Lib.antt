@@ -1,0 +1,5 @@
+-- The definitions of workers.
+pub mod OwnFronts
+pub mod Bringing
+pub mod Turns
+pub mod Samples
