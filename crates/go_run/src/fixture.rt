@@ -6,9 +6,7 @@ use go_disk::MemDisk;
 use go_io::{MemShelf, MemSink, NoGate};
 use go_text::Text;
 use std::alloc::{AllocError, Global};
-use std::process::Abort;
 use std::sync::Wait;
-use std::test::Fail;
 use std::thread::Threads;
 
 // The numbers of the small stores.
@@ -178,24 +176,6 @@ pub(crate) fn run_files_on<R: Threads + Wait + Sync>(
 ) -> Result<Ended, AllocError> {
     let sink = MemSink::new(alloc, 65536, 65536)?;
     run_from(rt, alloc, words, shelf_of(alloc, texts)?, sink, disk)
-}
-
-// What a run is of, its words and its texts by their names, and what it is to print.
-pub(crate) type Row<'a> = (&'a [&'a str], &'a [(&'a str, &'a [u8])], &'a [u8]);
-
-// Runs each row, which ends well and prints what it should.
-pub(crate) fn assert_printed<R: Threads + Wait + Abort + Sync>(
-    rt: &R,
-    alloc: Global,
-    rows: &[Row],
-) -> Result<(), Fail> {
-    for (words, texts, want) in rows {
-        let ended = run_files(rt, alloc, words, texts)?;
-        assert_eq!(rt; ended.line.as_slice(), b"".as_slice());
-        assert_eq!(rt; ended.number, 0);
-        assert_eq!(rt; ended.sink.bytes(), *want);
-    }
-    Ok(())
 }
 
 // The words that drive these scripts over a small store.

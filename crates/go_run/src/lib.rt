@@ -61,6 +61,8 @@ mod reading_tests;
 #[cfg(test)]
 mod refusal_tests;
 #[cfg(test)]
+mod rows;
+#[cfg(test)]
 mod session_disk_tests;
 #[cfg(test)]
 mod session_tests;

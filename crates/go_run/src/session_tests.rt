@@ -1,6 +1,7 @@
 // Whole runs of several sessions: who waits for whom, and when a ring is full for all of them.
 
 use crate::fixture::{FILE, drive_small, repeated, run_files, run_files_on};
+use crate::rows::assert_rows;
 use go_disk::MemDisk;
 use std::alloc::{AllocError, Global};
 use std::test::Fail;
@@ -66,120 +67,160 @@ fn eight_sessions_wait_for_each_other(rt: HostRuntime) -> Result<(), Fail> {
     Ok(())
 }
 
-// Two scripts, the edge file `e`, the status, the line and the replies.
-type Wait = (
-    &'static [u8],
-    &'static [u8],
-    u8,
-    &'static [u8],
-    &'static [u8],
-);
+// What stands behind the other's first wait isn't counted, and one's own is. An offer isn't certain, each entry of a list is, and a list that
+// is loaded twice counts twice. The earlier script is told first, and an edge file before either.
+const WAITS: &str = "
+$ drive --vertices 8 --ring 128 --shards 2 a b
+> a
+add 0 1
+until 3
+> b
+add 0 2
+del 0 2
+until 3
+add 0 3
+< 0
+session 1
+add 0
+until 3
+session 2
+add 1
+del 2
+until 3
+add 3
+$ drive --vertices 8 --ring 128 --shards 2 a b
+> a
+add 0 1
+until 4
+> b
+add 0 2
+del 0 2
+until 3
+add 0 3
+< 2 graphone: a: line 2: until
+$ drive --vertices 8 --ring 128 --shards 2 a b
+> a
+add 0 1
+until 3
+> b
+add 0 2
+del 0 2
+until 4
+add 0 3
+< 2 graphone: b: line 3: until
+$ drive --vertices 8 --ring 128 --shards 2 a b
+> a
+until 0
+add 0 1
+until 1
+> b
+until 0
+< 0
+session 1
+until 0
+add 0
+until 1
+session 2
+until 0
+$ drive --vertices 8 --ring 128 --shards 2 a b
+> a
+until 0
+add 0 1
+until 1
+> b
+# none
+until 1
+< 2 graphone: b: line 2: until
+$ drive --vertices 8 --ring 128 --shards 2 a b
+> a
+until 0
+add 0 1
+until 2
+> b
+until 0
+add 0 1
+< 2 graphone: a: line 3: until
+$ drive --vertices 8 --ring 128 --shards 2 a b
+> a
+until 1
+> b
+offer 0 1
+< 2 graphone: a: line 1: until
+$ drive --vertices 8 --ring 128 --shards 2 a b
+> a
+until 6
+> b
+load e
+load e
+> e
+1 2
+1 3
+-1 2
+< 0
+session 1
+until 6
+session 2
+load e: 3 edges, last 2
+load e: 3 edges, last 5
+$ drive --vertices 8 --ring 128 --shards 2 a b
+> a
+until 7
+> b
+load e
+load e
+> e
+1 2
+1 3
+-1 2
+< 2 graphone: a: line 1: until
+$ drive --vertices 8 --ring 128 --shards 2 a b
+> a
+load e
+add 0 0
+until 5
+> b
+del 0 0
+until 5
+load e
+> e
+1 2
+1 3
+-1 2
+< 0
+session 1
+load e: 3 edges, last 2
+add 4
+until 5
+session 2
+del 3
+until 5
+load e: 3 edges, last 7
+$ drive --vertices 8 --ring 128 --shards 2 a b
+> a
+load e
+add 0 0
+until 6
+> b
+del 0 0
+until 6
+load e
+> e
+1 2
+1 3
+-1 2
+< 2 graphone: a: line 3: until
+$ drive --vertices 8 --ring 128 --shards 2 a b
+> a
+sync
+until 1
+> b
+until 1
+load none
+< 3 graphone: none: not there";
 
 #[test]
 fn a_session_waits_for_what_is_certain_to_come_and_no_more(rt: HostRuntime) -> Result<(), Fail> {
-    let cases: [Wait; 12] = [
-        (
-            b"add 0 1\nuntil 3\n",
-            b"add 0 2\ndel 0 2\nuntil 3\nadd 0 3\n",
-            0,
-            b"",
-            b"session 1\nadd 0\nuntil 3\nsession 2\nadd 1\ndel 2\nuntil 3\nadd 3\n",
-        ),
-        (
-            b"add 0 1\nuntil 4\n",
-            b"add 0 2\ndel 0 2\nuntil 3\nadd 0 3\n",
-            2,
-            b"graphone: a: line 2: until\n",
-            b"",
-        ),
-        (
-            b"add 0 1\nuntil 3\n",
-            b"add 0 2\ndel 0 2\nuntil 4\nadd 0 3\n",
-            2,
-            b"graphone: b: line 3: until\n",
-            b"",
-        ),
-        // What stands behind the other's first wait isn't counted, and one's own is.
-        (
-            b"until 0\nadd 0 1\nuntil 1\n",
-            b"until 0\n",
-            0,
-            b"",
-            b"session 1\nuntil 0\nadd 0\nuntil 1\nsession 2\nuntil 0\n",
-        ),
-        (
-            b"until 0\nadd 0 1\nuntil 1\n",
-            b"# none\nuntil 1\n",
-            2,
-            b"graphone: b: line 2: until\n",
-            b"",
-        ),
-        (
-            b"until 0\nadd 0 1\nuntil 2\n",
-            b"until 0\nadd 0 1\n",
-            2,
-            b"graphone: a: line 3: until\n",
-            b"",
-        ),
-        // An offer isn't certain, each entry of a list is, and a list that is loaded twice counts twice.
-        (
-            b"until 1\n",
-            b"offer 0 1\n",
-            2,
-            b"graphone: a: line 1: until\n",
-            b"",
-        ),
-        (
-            b"until 6\n",
-            b"load e\nload e\n",
-            0,
-            b"",
-            b"session 1\nuntil 6\nsession 2\nload e: 3 edges, last 2\nload e: 3 edges, last 5\n",
-        ),
-        (
-            b"until 7\n",
-            b"load e\nload e\n",
-            2,
-            b"graphone: a: line 1: until\n",
-            b"",
-        ),
-        (
-            b"load e\nadd 0 0\nuntil 5\n",
-            b"del 0 0\nuntil 5\nload e\n",
-            0,
-            b"",
-            b"session 1\nload e: 3 edges, last 2\nadd 4\nuntil 5\nsession 2\ndel 3\nuntil 5\nload e: 3 edges, last 7\n",
-        ),
-        (
-            b"load e\nadd 0 0\nuntil 6\n",
-            b"del 0 0\nuntil 6\nload e\n",
-            2,
-            b"graphone: a: line 3: until\n",
-            b"",
-        ),
-        // The earlier script is told first, and an edge file before either.
-        (
-            b"sync\nuntil 1\n",
-            b"until 1\nload none\n",
-            3,
-            b"graphone: none: not there\n",
-            b"",
-        ),
-    ];
-    let alloc = rt.alloc();
-    let words = drive_small(alloc, &["a", "b"])?;
-    for (one, two, number, line, want) in cases {
-        let texts = [
-            ("a", one),
-            ("b", two),
-            ("e", b"1 2\n1 3\n-1 2\n".as_slice()),
-        ];
-        let ended = run_files(&rt, rt.alloc(), &words, &texts)?;
-        assert_eq!(rt; ended.line.as_slice(), line);
-        assert_eq!(rt; ended.number, number);
-        assert_eq!(rt; ended.sink.bytes(), want);
-    }
-    Ok(())
+    assert_rows(&rt, rt.alloc(), 12, WAITS)
 }
 
 #[test]
