@@ -16,6 +16,9 @@ use go_word::decode;
 use std::alloc::{AllocError, Global};
 use std::marker::Model;
 
+// For so many neighbours at most room is made before the words are read: a list may be much shorter than the words that it comes of.
+const FEW: usize = 64;
+
 /// The neighbours of a vertex at the cut, after how many entries, and the words of its later ones; how many entries there
 /// were in all at each front that brought some, and how many more words are promised a place.
 #[derive(Drop)]
@@ -139,8 +142,11 @@ impl Held {
         ensures { OnOk result (out.new.items ≡ list_at self.now raw) }
     {
         out.clear();
-        out.extend_from_slice(self.base())?;
-        take_first(alloc, &self.tail, (raw - self.floor()) as usize, out)
+        let base = self.base();
+        let later = (raw - self.floor()) as usize;
+        out.reserve(base.len().saturating_add(later.min(FEW)))?;
+        out.extend_from_slice(base)?;
+        take_first(alloc, &self.tail, later, out)
     }
 
     /// What the vertex becomes when it is compacted at a front, in memory of its own; none where it stays what it is.
