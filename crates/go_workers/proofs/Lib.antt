@@ -10,3 +10,4 @@ pub mod TurnsDone
 pub mod Handed
 pub mod FileTurns
 pub mod ShardTurns
+pub mod SeatSamples

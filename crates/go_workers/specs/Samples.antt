@@ -2,6 +2,7 @@
 use Rattle.std.specs.Prelude.{◌≡◌, ℕ, ◌+◌, ◌≤◌, true, [], ◌∷◌}
 use Rattle.atomic_table.specs.Table.{Me}
 use Rattle.go_core.specs.declared.entry.Entry.{Entry}
+use Rattle.go_shard.specs.ShardState.{ShardState, IsOf, Keeps}
 use Rattle.go_rule.specs.declared.view.SeatView.{SeatView}
 
 -- a seat may take the archiver's turn with so much room
@@ -13,6 +14,12 @@ pub record MayArchive {P : Type 0} (room : ℕ) (d : SeatView P) : Type 0 where
 pub record HasShare {P : Type 0} (quota lot : ℕ) (d : SeatView P) : Type 0 where
   pub quota_is : d.share.quota ≡ quota
   pub lot_is : d.share.lot ≡ lot
+
+-- a shard tells of a vertex at its front
+pub record IsListable (v : ℕ) (shard : ShardState) : Type 0 where
+  pub own : IsOf shard v
+  pub kept : Keeps shard shard.front
+  pub uncut : shard.cut ≤ shard.front
 
 module _ {P S : Type 0} where
   -- a seat owes no word, and has no part in its hand

@@ -27,3 +27,8 @@ pub use compaction::compact_all;
 pub use flushing::flush_turn;
 pub use splitting::split;
 pub use turn::Turn;
+
+#[cfg(test)]
+mod fixture;
+#[cfg(test)]
+mod tests;
