@@ -32,3 +32,5 @@ pub use turn::Turn;
 mod fixture;
 #[cfg(test)]
 mod tests;
+#[cfg(test)]
+mod thread_tests;

@@ -6,7 +6,7 @@ use go_word::{Edge, Edges};
 use std::alloc::{AllocError, Global};
 use std::thread::{Threads, join};
 
-// From so many entries on, to split the halves at once takes less time than to start a thread for one of them.
+// From so many entries on the halves are split at once. To start a thread takes as long as to split thousands of entries.
 const LONG: usize = 65536;
 
 /// Gives for each shard the entries that leave its vertices, in their order, as one thread would.
