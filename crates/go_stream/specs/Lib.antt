@@ -1,0 +1,3 @@
+-- The definitions of streams.
+pub mod Spans
+pub mod Updates
