@@ -1,6 +1,6 @@
 -- What copies of the ring leave of a seat, and what the last one has of a span.
-use Rattle.std.proofs.Common.{◌≡◌, ℕ, ◌+◌, ◌%◌, ◌<◌, ◌≤◌, List, sym, ap, ◌∙◌, arith, subst}
-use Rattle.std.specs.Prelude.{Contains, min}
+use Rattle.std.proofs.Common.{◌≡◌, ℕ, ◌≤◌, List, sym, ap, ◌∙◌, arith, subst}
+use Rattle.std.specs.Prelude.{Contains}
 use Rattle.atomic_table.specs.Table.{Me, step}
 use mathlib.Core.Option.{none}
 use Rattle.go_word.specs.declared.word.TheConstants.{ID_LIMIT}
@@ -18,7 +18,7 @@ use Rattle.go_ring.specs.Copies.{GoesOn, Copies, IsCutOff}
 use Rattle.go_turns.specs.Going.{but_known, HasGoneOn}
 use Rattle.go_turns.proofs.Going.{gone_nowhere, gone_further, gone_flag}
 use Rattle.go_stream.specs.declared.wanted.Wanted.{Wanted}
-use Rattle.go_stream.specs.Spans.{upto, IsEnough}
+use Rattle.go_stream.specs.Spans.{IsEnough}
 use Rattle.go_stream.specs.Updates.{HasCome, IsFlagged}
 use Rattle.go_stream.proofs.Entries.{decoded}
 

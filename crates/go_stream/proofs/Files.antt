@@ -1,5 +1,5 @@
 -- What a read of the log's file gives, as what the file goes back, and what stops it.
-use Rattle.std.proofs.Common.{◌≡◌, ◌⊎◌, ℕ, ◌+◌, ◌-◌, ◌<◌, ◌≤◌, Bool, true, false, List, [], length, take, drop, sym, refl, ap, ◌∙◌, inl, inr, arith, subst}
+use Rattle.std.proofs.Common.{◌≡◌, ℕ, ◌-◌, ◌≤◌, Bool, true, false, List, [], length, sym, refl, ap, ◌∙◌, inl, arith, subst}
 use Rattle.std.specs.Prelude.{Some, None, Option as Maybe, IfSome, IsSome, nat_lt, ◌||◌}
 use Rattle.std.proofs.lemmas.Bool.{false≢true}
 use Rattle.atomic_table.specs.Table.{Me, step}
@@ -9,7 +9,7 @@ use Rattle.go_word.specs.declared.edge.Edge.{Edge}
 use Rattle.go_api.specs.declared.stop.Stop.{Stop}
 use Rattle.go_api.specs.declared.stop.Stop.TheVariants as stops
 use Rattle.go_core.specs.Frame.{Frame}
-use Rattle.go_core.specs.Parts.{IsShardPlace, IsFilePlace}
+use Rattle.go_core.specs.Parts.{IsFilePlace}
 use Rattle.go_disk.specs.Device.{Device, IsDevice}
 use Rattle.go_durable.specs.Journal.{journal_front, is_spent, KeepsOn}
 use Rattle.go_durable.specs.JournalRanging.{IsRanged}
@@ -18,7 +18,7 @@ use Rattle.go_durable.specs.declared.journal.Journal.{Journal}
 use Rattle.go_durable.specs.declared.journal.Journal.TheVariants as journals
 use Rattle.go_rule.specs.declared.view.About.{About}
 use Rattle.go_rule.specs.declared.view.SeatView.{SeatView}
-use Rattle.go_rule.specs.Steps.{LoadsFlag, StoresFlag}
+use Rattle.go_rule.specs.Steps.{LoadsFlag}
 use Rattle.go_rule.specs.Views.{with_raised}
 use Rattle.go_ring.specs.Calls.{cause_of}
 use Rattle.go_turns.specs.Going.{HasGoneOn}
@@ -27,12 +27,12 @@ use Rattle.go_turns.proofs.Handing.{told_of, view_is, may_give}
 use Rattle.go_turns.proofs.Going.{gone_nowhere, gone_flag, gave_back}
 use Rattle.go_turns.proofs.Unchanged.{may_return}
 use Rattle.go_piece.specs.declared.piece.Piece.{Piece}
-use Rattle.go_piece.specs.declared.piece.Piece.TheVariants.{Log, Spent}
+use Rattle.go_piece.specs.declared.piece.Piece.TheVariants.{Log}
 use Rattle.go_piece.specs.Pieces.{file_of}
 use Rattle.go_piece.specs.Meanings.{meaning_of, stretch, IsLogInHand}
 use Rattle.go_piece.proofs.FileCalls.{keeps_now, log_in_hand, file_read}
 use Rattle.go_piece.proofs.Stretches.{seen_next}
-use Rattle.go_stream.specs.Updates.{IsTold, IsFlagged, HasFailed, IsRead, Stops}
+use Rattle.go_stream.specs.Updates.{IsTold, HasFailed, IsRead, Stops}
 use Rattle.go_stream.proofs.Turns.{KnowsSame, takes_raised, turn_same, turn_knows_taken, turn_knows_given}
 
 -- what holds of that which is told, where something is

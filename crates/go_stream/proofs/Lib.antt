@@ -4,3 +4,5 @@ pub mod Copies
 pub mod Turns
 pub mod Files
 pub mod Spans
+pub mod Onward
+pub mod SampleRing

@@ -1,5 +1,5 @@
 -- The entries of a span: those from the file, and behind them those from the ring.
-use Rattle.std.proofs.Common.{◌≡◌, ◌⊎◌, ℕ, ◌+◌, ◌-◌, ◌<◌, ◌≤◌, List, ◌++◌, length, take, drop, sym, refl, ap, ◌∙◌, inl, inr, ⊎_elim, arith, length-append}
+use Rattle.std.proofs.Common.{◌≡◌, ℕ, ◌+◌, ◌-◌, ◌≤◌, List, ◌++◌, length, take, drop, sym, refl, ap, ◌∙◌, inl, inr, ⊎_elim, arith, length-append}
 use Rattle.std.specs.Prelude.{min, max}
 use Rattle.std.proofs.Math.Seq.{take-add, drop-append_seam}
 use Rattle.std.proofs.lemmas.List.{drop-drop, length-take-le, length-drop}
@@ -19,7 +19,7 @@ use Rattle.go_piece.specs.declared.piece.Piece.{Piece}
 use Rattle.go_piece.specs.Meanings.{stretch}
 use Rattle.go_stream.specs.declared.wanted.Wanted.{Wanted}
 use Rattle.go_stream.specs.Spans.{upto, entries_from}
-use Rattle.go_stream.specs.Updates.{IsTold, IsFlagged, HasFailed, HasCome, IsRead, IsUpdated, Stops, ring_from}
+use Rattle.go_stream.specs.Updates.{IsFlagged, HasFailed, HasCome, IsRead, IsUpdated, Stops, ring_from}
 use Rattle.go_stream.proofs.Entries.{entries_seen}
 
 -- a stretch up to a place, and the one from there on

@@ -1,9 +1,8 @@
 -- What a turn on the log's file leaves of a seat, and of one that raised the flag meanwhile.
-use Rattle.std.proofs.Common.{◌≡◌, ℕ, List, ◌∷◌, sym, refl, ap, ◌∙◌, subst}
-use Rattle.std.specs.Prelude.{Some, Option as Maybe}
+use Rattle.std.proofs.Common.{◌≡◌, ℕ, sym, ap, ◌∙◌, subst}
+use Rattle.std.specs.Prelude.{Option as Maybe}
 use Rattle.atomic_table.specs.Table.{Me}
 use Rattle.go_core.specs.Frame.{Frame}
-use Rattle.go_rule.specs.declared.view.Note.{Note}
 use Rattle.go_rule.specs.declared.view.SeatView.{SeatView}
 use Rattle.go_rule.specs.Meaning.{Meaning}
 use Rattle.go_rule.specs.Turns.{IsTaken}

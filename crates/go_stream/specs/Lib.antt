@@ -1,3 +1,4 @@
 -- The definitions of streams.
 pub mod Spans
 pub mod Updates
+pub mod Streaming

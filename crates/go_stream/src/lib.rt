@@ -16,3 +16,10 @@ mod wanted;
 mod words;
 
 pub use live_stream::LiveStream;
+
+#[cfg(test)]
+mod fixture;
+#[cfg(test)]
+mod tests;
+#[cfg(test)]
+mod thread_tests;

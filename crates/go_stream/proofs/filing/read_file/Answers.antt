@@ -1,5 +1,5 @@
 -- `read_file`: the file goes back as it may, and its entries are the log's.
-use Rattle.std.proofs.Common.{◌≡◌, [], sym, ap, ◌∙◌, inr, arith, subst}
+use Rattle.std.proofs.Common.{◌≡◌, sym, ap, ◌∙◌, inr, arith, subst}
 use Rattle.std.specs.Prelude.{Some}
 use Rattle.go_api.specs.declared.stop.Stop.{Stop}
 use Rattle.go_api.specs.declared.stop.Stop.TheVariants as stops
