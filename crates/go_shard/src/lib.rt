@@ -46,6 +46,8 @@ pub use store::Shard;
 #[cfg(test)]
 mod compaction_tests;
 #[cfg(test)]
+mod counting_tests;
+#[cfg(test)]
 mod fixture;
 #[cfg(test)]
 mod tests;
