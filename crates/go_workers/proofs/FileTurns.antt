@@ -1,6 +1,6 @@
 -- A turn of the log's file: it is taken, appended to, and given back, with a fault of its disk raised before.
-use Rattle.std.proofs.Common.{◌≡◌, ◌⊎◌, ℕ, ◌+◌, ◌<◌, ◌≤◌, true, false, List, length, sym, refl, ap, ◌∙◌, inl, inr, ⊎_elim, arith, subst}
-use Rattle.std.specs.Prelude.{max, Option as Maybe, None, Some, Result, Ok, Err}
+use Rattle.std.proofs.Common.{◌≡◌, ◌⊎◌, ℕ, ◌≤◌, true, List, sym, refl, ap, inl, inr, ⊎_elim, arith, subst}
+use Rattle.std.specs.Prelude.{Option as Maybe, None, Some, Err}
 use Rattle.atomic_table.specs.Table.{Me}
 use Rattle.std.proofs.lemmas.Bool.{false≢true}
 use Rattle.go_api.specs.declared.stop.Stop.{Stop}
@@ -21,7 +21,7 @@ use Rattle.go_piece.specs.Pieces.{file_of, state_in, HasFailed, mark_in}
 use Rattle.go_text.specs.Causes.{Rose}
 use Rattle.go_piece.specs.Meanings.{meaning_of}
 use Rattle.go_workers.specs.Bringing.{HasAppendedPiece, IsFileInHand, is_disk}
-use Rattle.go_workers.specs.Turns.{raised_by, HasRead, HasServed, HasFiled, KnowsStood, MeetsFault}
+use Rattle.go_workers.specs.Turns.{raised_by, HasRead, HasServed, HasFiled, KnowsStood}
 use Rattle.go_workers.proofs.Served.{served_with, takes_raised}
 
 module _ {D : Type 0} (device : Device D) where

@@ -1,6 +1,6 @@
 -- The log's file that is given back, after it was to take what it lacks of a run that the flusher has read.
-use Rattle.std.proofs.Common.{◌≡◌, ℕ, ◌+◌, ◌-◌, ◌<◌, ◌≤◌, Bool, true, false, List, [], length, take, drop, refl, sym, ap, ◌∙◌, ⊎_elim, arith, subst}
-use Rattle.std.specs.Prelude.{All, max, min, Option as Maybe, None, Some}
+use Rattle.std.proofs.Common.{◌≡◌, ℕ, ◌+◌, ◌-◌, ◌<◌, ◌≤◌, true, List, length, take, drop, refl, sym, ap, ◌∙◌, ⊎_elim, arith, subst}
+use Rattle.std.specs.Prelude.{All, Option as Maybe, None, Some}
 use Rattle.std.proofs.lemmas.Bool.{cases_lt, false≢true}
 use Rattle.std.proofs.lemmas.List.{length-drop, nil_from_length}
 use Rattle.std.proofs.lemmas.List.Elements.{All-weaker, All-take, All-drop}
@@ -13,7 +13,7 @@ use Rattle.go_core.specs.Parts.{IsFilePlace}
 use Rattle.go_disk.specs.Device.{Device, IsDevice}
 use Rattle.go_durable.specs.declared.journal.Journal.{Journal}
 use Rattle.go_durable.specs.declared.journal.Journal.TheVariants.{Sound, Spent as SpentJournal}
-use Rattle.go_durable.specs.Journal.{is_spent, journal_front, KeepsOn}
+use Rattle.go_durable.specs.Journal.{is_spent, KeepsOn}
 use Rattle.go_durable.specs.LogState.{LogState}
 use Rattle.go_durable.specs.Recovery.{AreNext}
 use Rattle.go_rule.specs.declared.view.SeatView.{SeatView}

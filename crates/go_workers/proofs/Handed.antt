@@ -1,5 +1,5 @@
 -- A piece that was lifted out of a hold and goes back with its turn, by the paths of the calls.
-use Rattle.std.proofs.Common.{◌≡◌, ℕ, ◌<◌, sym, ap, ◌∙◌, refl, arith, subst}
+use Rattle.std.proofs.Common.{◌≡◌, ℕ, sym, ap, ◌∙◌, subst}
 use Rattle.std.specs.Prelude.{OnOk, Result, Ok, Err, Option as Maybe}
 use Rattle.atomic_table.specs.Table.{Me}
 use Rattle.go_core.specs.Frame.{Frame}

@@ -1,5 +1,5 @@
 -- On a shard's own entries of a run, and on those that it lacks.
-use Rattle.std.proofs.Common.{◌≡◌, ℕ, ◌+◌, ◌-◌, ◌<◌, ◌≤◌, Bool, true, List, [], length, take, drop, get_or, filter, take_all, sym, refl, ap, ◌∙◌, inr, arith, subst}
+use Rattle.std.proofs.Common.{◌≡◌, ℕ, ◌+◌, ◌-◌, ◌≤◌, Bool, true, List, [], length, take, drop, get_or, filter, take_all, sym, refl, ap, ◌∙◌, inr, arith, subst}
 use Rattle.std.specs.Prelude.{All, ◌%◌, ◌==◌, ◌++◌, not, OnOk, Result, Ok, Err}
 use Rattle.std.proofs.Math.Seq.{drop-append_seam}
 use Rattle.std.proofs.lemmas.List.{take-append-drop, length-drop, length-append}

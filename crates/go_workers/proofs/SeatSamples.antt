@@ -1,5 +1,5 @@
 -- What the tests know of a seat after a turn, and that their ring may be opened.
-use Rattle.std.proofs.Common.{◌≡◌, ℕ, ◌^◌, ◌<◌, ◌≤◌, List, [], length, sym, refl, ap, ◌∙◌, arith, subst}
+use Rattle.std.proofs.Common.{◌≡◌, ℕ, ◌^◌, ◌<◌, List, [], length, sym, ap, ◌∙◌, arith, subst}
 use Rattle.std.specs.Prelude.{◌+◌, ◌%◌, MatchResult, Result, Ok, Err, Option as Maybe}
 use Rattle.atomic_table.specs.Table.{Me}
 use Rattle.go_api.specs.declared.stop.Stop.{Stop}

@@ -1,7 +1,7 @@
 -- What a seat has after turns of parts, and after a front was moved.
-use Rattle.std.proofs.Common.{◌≡◌, ℕ, suc, ◌+◌, ◌<◌, ◌≤◌, true, List, [], ◌∷◌, length, sym, refl, ap, ◌∙◌, inl, inr, ⊎_elim, arith, subst}
-use Rattle.std.specs.Prelude.{Contains, max, Option as Maybe, Some, None}
-use Rattle.atomic_table.specs.Table.{Me, Step, step}
+use Rattle.std.proofs.Common.{◌≡◌, ℕ, suc, ◌+◌, ◌≤◌, List, ◌∷◌, length, sym, refl, ap, ◌∙◌, arith, subst}
+use Rattle.std.specs.Prelude.{Contains, Option as Maybe}
+use Rattle.atomic_table.specs.Table.{Me}
 use Rattle.go_word.specs.declared.edge.Edge.{Edge}
 use Rattle.go_core.specs.declared.view.View.{View}
 use Rattle.go_core.specs.Frame.{Frame}
@@ -12,7 +12,7 @@ use Rattle.go_rule.specs.declared.view.Stand.{Stand}
 use Rattle.go_rule.specs.declared.view.Told.{Told}
 use Rattle.go_rule.specs.declared.view.SeatView.{SeatView}
 use Rattle.go_rule.specs.Meaning.{Meaning}
-use Rattle.go_rule.specs.Turns.{taking, giving, IsTaken}
+use Rattle.go_rule.specs.Turns.{taking, IsTaken}
 use Rattle.go_rule.specs.Views.{with_raised}
 use Rattle.go_piece.specs.declared.piece.Piece.{Piece}
 use Rattle.go_piece.specs.Meanings.{stretch}

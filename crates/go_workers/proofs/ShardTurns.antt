@@ -1,5 +1,5 @@
 -- A turn of a shard in which it is compacted.
-use Rattle.std.proofs.Common.{◌≡◌, ℕ, ◌+◌, ◌<◌, ◌≤◌, List, ◌∷◌, sym, refl, ap, ◌∙◌, arith, subst}
+use Rattle.std.proofs.Common.{◌≡◌, ℕ, ◌+◌, ◌≤◌, arith, subst}
 use Rattle.std.specs.Prelude.{All, Option as Maybe}
 use Rattle.std.proofs.lemmas.List.Elements.{All-head}
 use mathlib.Core.Option.{none}

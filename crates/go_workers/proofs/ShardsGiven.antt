@@ -1,5 +1,5 @@
 -- Shards that are given back: brought on over a run that the archiver has read, or compacted.
-use Rattle.std.proofs.Common.{◌≡◌, ℕ, ◌+◌, ◌-◌, ◌^◌, ◌<◌, ◌≤◌, true, List, length, take, drop, filter, refl, sym, ap, ◌∙◌, ⊎_elim, arith, subst}
+use Rattle.std.proofs.Common.{◌≡◌, ℕ, ◌+◌, ◌-◌, ◌^◌, ◌<◌, ◌≤◌, List, length, take, drop, filter, refl, sym, ap, ◌∙◌, ⊎_elim, arith, subst}
 use Rattle.std.specs.Prelude.{All, if◌then◌else◌, OnErr, OnOk, Result, Ok, Err}
 use Rattle.std.proofs.lemmas.List.{drop-drop, drop-take, length-drop}
 use Rattle.std.proofs.lemmas.List.Elements.{All-weaker, All-take, All-drop}

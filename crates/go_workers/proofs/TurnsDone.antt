@@ -1,6 +1,6 @@
 -- What a turn of a worker comes to: the front that it moves was loaded, a run was taken from there on, and what follows left the seat as it may.
 use Rattle.std.proofs.Common.{◌≡◌, ℕ, ◌+◌, ◌<◌, ◌≤◌, true, List, [], length, sym, refl, ap, ◌∙◌, inl, inr, arith, subst}
-use Rattle.std.specs.Prelude.{Contains, max, Option as Maybe, Err}
+use Rattle.std.specs.Prelude.{Contains, Option as Maybe, Err}
 use Rattle.atomic_table.specs.Table.{Me, Step}
 use Rattle.go_word.specs.declared.edge.Edge.{Edge}
 use Rattle.go_core.specs.declared.part.PartState.{PartState}

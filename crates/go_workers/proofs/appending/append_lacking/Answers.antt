@@ -1,5 +1,5 @@
 -- `append_lacking`: the log goes on with what it lacks, or was spent by its disk.
-use Rattle.std.proofs.Common.{◌≡◌, ℕ, ◌-◌, List, length, take, drop, sym, ap, ◌∙◌, subst}
+use Rattle.std.proofs.Common.{ℕ, ◌-◌, List, length, take, drop, sym, ap, ◌∙◌, subst}
 use Rattle.go_word.specs.declared.edge.Edge.{Edge}
 use Rattle.go_durable.specs.declared.journal.Journal.TheVariants.{Sound, Spent}
 use Rattle.go_durable.specs.Journal.{KeepsOn}

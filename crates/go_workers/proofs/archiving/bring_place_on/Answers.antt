@@ -1,5 +1,5 @@
 -- `bring_place_on`: the shard was taken, may be brought on, and goes back.
-use Rattle.std.proofs.Common.{◌≡◌, ◌+◌, ◌<◌, ℕ, length, sym, refl, ap, ◌∙◌, arith, subst}
+use Rattle.std.proofs.Common.{◌≡◌, ◌+◌, length, sym, refl, arith, subst}
 use Rattle.std.specs.Prelude.{Contains}
 use Rattle.go_rule.specs.Views.{frame_of}
 use Rattle.go_shard.specs.Split.{IsSplit}

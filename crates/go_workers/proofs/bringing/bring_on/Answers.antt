@@ -1,7 +1,7 @@
 -- `bring_on`: what is left of the shard's list is what it lacks of the run.
-use Rattle.std.proofs.Common.{◌≡◌, ℕ, ◌+◌, ◌-◌, ◌<◌, ◌≤◌, true, List, [], length, take, drop, filter, get_or, sym, refl, ap, ◌∙◌, arith, subst}
+use Rattle.std.proofs.Common.{◌≡◌, ◌+◌, ◌-◌, ◌≤◌, true, List, [], length, take, drop, filter, get_or, sym, refl, ap, ◌∙◌, arith, subst}
 use Rattle.std.specs.Prelude.{All}
-use Rattle.std.proofs.lemmas.List.{get_or_default, length-take, length-drop}
+use Rattle.std.proofs.lemmas.List.{get_or_default, length-take}
 use Rattle.go_word.specs.declared.edge.Edge.{Edge}
 use Rattle.go_word.specs.Log.{IsWithin}
 use Rattle.go_shard.specs.ShardState.{is_own}

@@ -1,7 +1,6 @@
 -- `compacted`: a shard that was compacted, or was refused, may be given back.
 use Rattle.std.proofs.Common.{sym, subst}
 use Rattle.go_rule.specs.Turns.{CanGive}
-use Rattle.go_shard.specs.ShardState.{ShardState}
 use Rattle.go_piece.specs.declared.piece.Piece.TheVariants.{Shard}
 use Rattle.go_piece.specs.Meanings.{meaning_of, IsShardInHand}
 use Rattle.go_workers.specs.Bringing.{OnShard}

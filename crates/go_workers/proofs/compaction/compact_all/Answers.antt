@@ -1,5 +1,5 @@
 -- `compact_all`: one shard more was compacted.
-use Rattle.std.proofs.Common.{◌≡◌, ◌+◌, ◌<◌, ◌≤◌, ℕ, sym, ◌∙◌, ⊎_elim, arith, subst}
+use Rattle.std.proofs.Common.{◌≡◌, ◌<◌, ◌≤◌, ℕ, ◌∙◌, ⊎_elim, arith, subst}
 use Rattle.std.proofs.lemmas.Bool.{cases_lt}
 use Rattle.go_rule.specs.Views.{frame_of}
 use Rattle.go_workers.specs.Turns.{HasCompactedAt}

@@ -1,5 +1,5 @@
 -- `compact_place`: the shard was taken, is compacted by the archived front that was loaded then, and goes back.
-use Rattle.std.proofs.Common.{◌≡◌, ◌+◌, ◌<◌, ℕ, sym, refl, ap, ◌∙◌, arith, subst}
+use Rattle.std.proofs.Common.{◌≡◌, sym, ap, ◌∙◌, arith, subst}
 use Rattle.atomic_table.specs.Table.{step}
 use mathlib.Core.Option.{none}
 use Rattle.go_rule.specs.Views.{frame_of}

@@ -1,6 +1,6 @@
 -- `append_run`: the file was taken, may be appended to, and goes back.
-use Rattle.std.proofs.Common.{◌≡◌, ◌+◌, ◌<◌, ℕ, length, sym, refl, ap, ◌∙◌, arith, subst}
-use Rattle.go_rule.specs.Turns.{taking, CanGive}
+use Rattle.std.proofs.Common.{◌+◌, length, sym, ap, ◌∙◌, arith, subst}
+use Rattle.go_rule.specs.Turns.{CanGive}
 use Rattle.go_rule.specs.Views.{frame_of}
 use Rattle.go_turns.proofs.Handing.{told_of, view_is}
 use Rattle.go_piece.specs.Meanings.{meaning_of}

@@ -1,5 +1,5 @@
 -- `flush_turn`: the durable front was loaded, a run was taken and appended, and the front moved behind it.
-use Rattle.std.proofs.Common.{rules, Err, ◌≡◌, ◌+◌, ◌<◌, ◌≤◌, ℕ, length, take, sym, refl, ap, ◌∙◌, arith, subst}
+use Rattle.std.proofs.Common.{rules, Err, ◌≡◌, ◌+◌, length, take, sym, ap, ◌∙◌, arith, subst}
 use Rattle.std.proofs.lemmas.List.{length-take-le}
 use Rattle.atomic_table.specs.Table.{step}
 use mathlib.Core.Option.{none}

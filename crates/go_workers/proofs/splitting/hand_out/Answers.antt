@@ -1,5 +1,5 @@
 -- The loop of `hand_out`.
-use Rattle.std.proofs.Common.{◌≡◌, List, [], ◌++◌, map, length, ap, ◌∙◌, arith, subst, append-nil, sym}
+use Rattle.std.proofs.Common.{◌≡◌, [], ◌++◌, map, ap, ◌∙◌, arith, subst, append-nil, sym}
 use Rattle.std.specs.Vec.Iter.{into_iter_items}
 use Rattle.std.proofs.lemmas.List.{nil_from_length}
 use Rattle.go_shard.proofs.SplitLemmas.{items_of}

@@ -1,5 +1,5 @@
 -- The loop of `joined`: the next list has that of the other half behind it.
-use Rattle.std.proofs.Common.{◌≡◌, ◌∙◌, ◌<◌, ◌≤◌, ◌++◌, [], get_or, set, length, map, arith, ap, sym, length-set}
+use Rattle.std.proofs.Common.{◌≡◌, ◌∙◌, ◌<◌, ◌++◌, [], get_or, set, length, map, arith, ap, sym, length-set}
 use Rattle.std.proofs.lemmas.List.{get_or-map, length-map, map-set}
 use Rattle.go_shard.proofs.SplitLemmas.{items_of}
 use Rattle.go_workers.proofs.Halves.{joined_next}

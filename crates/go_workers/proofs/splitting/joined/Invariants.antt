@@ -1,5 +1,5 @@
 -- The loop of `joined`.
-use Rattle.std.proofs.Common.{◌≡◌, ◌-◌, ◌≤◌, length, map}
+use Rattle.std.proofs.Common.{◌-◌, ◌≤◌, length, map}
 use Rattle.go_workers.proofs.Halves.{AreJoined}
 use Rattle.go_workers.proofs.splitting.joined.Given as goal
 
