@@ -14,7 +14,7 @@ fn each_vertex_is_counted_at_an_earlier_front_and_at_the_latest(
     shard.counts_at(9, &mut counts)?;
     assert_eq!(rt;
         counts.as_slice(),
-        [2, 1, 0, 0, 0, 3, 1, 1, 0, 0].as_slice()
+        [2, 1, 0, 0, 0, 4, 1, 0, 0, 0].as_slice()
     );
     Ok(())
 }
