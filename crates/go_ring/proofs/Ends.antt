@@ -1,5 +1,5 @@
 -- The end of a copy: what its seat has seen, which words the buffer has, and why it stopped.
-use Rattle.std.proofs.Common.{◌≡◌, ◌⊎◌, ℕ, ◌+◌, ◌%◌, ◌<◌, ◌≤◌, min, max, true, List, map}
+use Rattle.std.proofs.Common.{◌≡◌, ◌⊎◌, ℕ, ◌+◌, ◌%◌, ◌^◌, ◌<◌, ◌≤◌, min, max, true, List, map}
 use Rattle.std.proofs.Common.{length, slice_index, sym, refl, ap, ◌∙◌, inl, inr, ⊎_elim, arith, subst}
 use Rattle.std.specs.Prelude.{All, Contains}
 use Rattle.std.proofs.lemmas.Bool.{cases_lt}
@@ -76,8 +76,8 @@ module _ {P S : Type 0} where
   pub ends : (f : Frame) {s : Step S} (from : ℕ) (d : SeatView P) (buf : List ℕ) (q : ℕ) (m2 m3 : Me S (SeatView P)) (copied : Copied)
       → Turned f.slots from d m2.0 buf q → LoadsEnding f copied.end s m2 copied.durable m3 → copied.archived ≡ m2.0.core.archived
       → copied.end ≡ max q copied.archived → (copied.archived ≤ q) ⊎ (from + f.slots ≤ copied.archived)
-      → StopsFor copied.end m2.0.core.head from (from + f.slots) copied.stop → TellsWords f.slots d m3.0 copied buf
-  ends f from d buf q m2 m3 copied t l archived end either stops =
+      → StopsFor copied.end m2.0.core.head from (from + f.slots) copied.stop → copied.end < 2 ^ 32 → TellsWords f.slots d m3.0 copied buf
+  ends f from d buf q m2 m3 copied t l archived end either stops small =
       let n = copied.durable in
       let seen3 : m3.0.core.seen ≡ max (max m2.0.core.seen n) copied.end = ap (λ (z : Me S (SeatView P)). z.0.core.seen) l.becomes in
       let told3 : m3.0.told.seen ≡ l.seen = ap (λ (z : Me S (SeatView P)). z.0.told.seen) l.becomes in
@@ -90,6 +90,7 @@ module _ {P S : Type 0} where
             ⊎_elim (λ (within : copied.archived ≤ q). let far = t.at.far (omega arith) in omega arith)
             (λ (over : from + f.slots ≤ copied.archived). omega arith) either;
         sees = omega arith;
+        small = small;
         long = ap (λ (xs : List Edge). length xs) told3 ∙ omega arith;
         words =
             λ p low less uncut.

@@ -1,5 +1,5 @@
 -- What a copy of the ring's words tells its seat.
-use Rattle.std.specs.Prelude.{◌≡◌, ℕ, ◌+◌, ◌%◌, ◌<◌, ◌≤◌, min, true, false, List, [], length, take, All, Contains, slice_index}
+use Rattle.std.specs.Prelude.{◌≡◌, ℕ, ◌+◌, ◌%◌, ◌^◌, ◌<◌, ◌≤◌, min, true, false, List, [], length, take, All, Contains, slice_index}
 use Rattle.atomic_table.specs.Table.{Me, step}
 use mathlib.Core.Option.{none}
 use Rattle.go_word.specs.Word.{is_matched}
@@ -62,10 +62,12 @@ module _ {P : Type 0} where
     pub pins : All (λ (x : PlacedPin). IsShardPlace f x.place → x.pin.front ≤ copied.archived) d.stake.pins
     pub cuts : All (λ (x : Note P). IsShardPlace f x.place → (state_of x.part).cut ≤ copied.archived) d.stake.notes
 
-  -- all that had been seen is before the end, and all up to the end is seen; from the lesser front on the buffer has the words of the entries
+  -- all that had been seen is before the end, a number of 32 bits, and all up to the end is seen; from the lesser front on the buffer has the words
+  -- of the entries
   pub record TellsWords (slots : ℕ) (d now : SeatView P) (copied : Copied) (buf : List ℕ) : Type 0 where
     pub seen_before : d.core.seen ≤ copied.end
     pub sees : copied.end ≤ now.core.seen
+    pub small : copied.end < 2 ^ 32
     pub long : length now.told.seen ≡ now.core.seen
     pub words : (p : ℕ) → min copied.archived copied.durable ≤ p → p < copied.end → (IsCutOff copied copied.stop → ⊥) →
         IsWordOf slots d.about.vertices now.told.seen (record { at = p; word = slice_index buf (p % slots); sure = true })

@@ -1,5 +1,5 @@
 -- `copy_ring`: each turn goes on, less is left after it, and the end tells what it has to.
-use Rattle.std.proofs.Common.{◌≡◌, ◌⊎◌, ℕ, ◌+◌, ◌<◌, ◌≤◌, min, max, sym, refl, ap, ◌∙◌, inl, inr, ⊎_elim, arith, subst}
+use Rattle.std.proofs.Common.{◌≡◌, ◌⊎◌, ℕ, ◌+◌, ◌^◌, ◌<◌, ◌≤◌, min, max, sym, refl, ap, ◌∙◌, inl, inr, ⊎_elim, arith, subst}
 use Rattle.go_rule.specs.Views.{frame_of}
 use Rattle.go_rule.specs.Steps.{CanEnd}
 use Rattle.go_ring.specs.declared.copied.Copied.{Copied}
@@ -29,6 +29,7 @@ loop-next-init g c =
           c.args.buf.now some' begin three.ensures.tells four.ensures.tells c.min-from.ensures,
       sym (ap (λ z. z.0.core.head) four.ensures.tells.becomes ∙ ap (λ z. z.0.core.head) three.ensures.tells.becomes),
       goes_same four.new.seat.me.0,
+      three.ensures.tells.small,
     )
 
 pub copy_words-next-requires-clause-at : goal.copy_words-next-requires-clause-at
@@ -178,6 +179,7 @@ loop-next-preserved g c =
           (goes_then _ m2.0 m3.0 (goes_to_front g.T.Part.state_of f m1 m2 two.result _ m0.0 inv.6 r.only two.ensures.tells)
           (goes_head f m2 m3 three.result three.ensures.tells))
           (goes_durable f m3 m4 n four.ensures.tells),
+      three.ensures.tells.small,
     )
 
 pub load_ending-durable-requires-clause-at : goal.load_ending-durable-requires-clause-at
@@ -268,6 +270,10 @@ returns-clause-copies g c =
     let onward = t.lap.onward in
     let known = l.front.known_to in
     let end = c.max-end.ensures in
+    let words_within = t.at.within in
+    let head_small = inv.7 in
+    let front_small = two.ensures.tells.front.small in
+    let small : copied.end < 2 ^ 32 = omega arith in
     let first = c.load_head in
     let archived = c.load_archived-archived in
     let again = c.load_head-head in
@@ -301,7 +307,7 @@ returns-clause-copies g c =
       hand = ap (λ z. z.1) l.becomes ∙ ap (λ z. z.1) two.ensures.tells.becomes ∙ words.ensures.hand ∙ inv.2;
       fronts =
           fronts g.T.Part.state_of f d m1 m2 m3 copied q (goes_then d m0.0 m1.0 inv.4.ahead.on (goes_reading m0.0 m1.0 r.only)) two.ensures.tells l end;
-      told = ends f from d buf q m2 m3 copied t l (sym archived2) end either stops2;
+      told = ends f from d buf q m2 m3 copied t l (sym archived2) end either stops2 small;
       stop =
           stops_so f.slots from d m3.0 copied copied.stop stops3 t.lap.first (omega arith)
           (λ below.
