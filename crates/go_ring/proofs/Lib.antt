@@ -1,5 +1,6 @@
 -- The lemmas on the ring's calls.
 pub mod Copying
+pub mod Cursors
 pub mod Ends
 pub mod Fills
 pub mod Unseen

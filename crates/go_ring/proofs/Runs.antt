@@ -140,6 +140,20 @@ module _ {P S : Type 0} where
         },
       )) reading
 
+  -- what is past all that was seen and taken is so from the start
+  pub still_unseen : (from p : ℕ) (es : List Edge) (start now : Me S (SeatView P)) → Reading from es start now → now.0.core.seen ≤ p → now.0.core.taken ≤ p
+      → (start.0.core.seen ≤ p) × (start.0.core.taken ≤ p)
+  still_unseen from p es start now reading unseen untaken =
+      ⊎_elim
+      (λ none.
+      let seen : now.0.core.seen ≡ start.0.core.seen = ap (λ (z : Me S (SeatView P)). z.0.core.seen) none.1 in
+      let taken : now.0.core.taken ≡ start.0.core.taken = ap (λ (z : Me S (SeatView P)). z.0.core.taken) none.1 in (omega arith, omega arith))
+      (λ run.
+      let becomes = run.1.becomes in
+      let seen : now.0.core.seen ≡ max start.0.core.seen (from + length es) = ap (λ (z : Me S (SeatView P)). z.0.core.seen) becomes in
+      let taken : now.0.core.taken ≡ max start.0.core.taken (from + length es) = ap (λ (z : Me S (SeatView P)). z.0.core.taken) becomes in
+      (omega arith, omega arith)) reading
+
   -- a word that isn't matched ends it
   pub ends_short : (from room : ℕ) (es : List Edge) (start now after : Me S (SeatView P)) → length es < room → Reading from es start now
       → after ≡ (with_unmoved now.0, now.1) → TakeIs from room es start after

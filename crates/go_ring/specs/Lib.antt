@@ -2,6 +2,7 @@
 pub mod Calls
 pub mod Claims
 pub mod Copies
+pub mod Cursors
 pub mod Openings
 pub mod Reads
 pub mod Samples

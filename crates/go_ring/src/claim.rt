@@ -6,6 +6,13 @@ use go_word::Edge;
 /// The most entries of one claim.
 pub const CLAIM_MOST: usize = 64;
 
+// What stands behind the edges of a claim.
+pub(crate) const NO_EDGE: Edge = Edge {
+    del: false,
+    src: 0,
+    dst: 0,
+};
+
 /// Positions that a seat claimed, with the edges that belong there. It has to be filled or abandoned.
 pub struct Claim {
     /// The first position.

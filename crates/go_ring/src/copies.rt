@@ -5,10 +5,11 @@ ghost use Rattle.go_rule.specs.Views.{frame_of};
 ghost use Rattle.go_ring.specs.Copies.{Copies};
 ghost use Rattle.go_ring.specs.Reads.{Held, CanCopy, Reads, StopsFor};
 
+use crate::ahead::load_ahead;
 use crate::copied::{Copied, CopyStop};
+use crate::cursor::Cursor;
 use go_core::Part;
-use go_rule::{Ring, Seat, load_ahead, load_archived, load_durable, load_ending, load_head};
-use go_word::matched;
+use go_rule::{Ring, Seat, load_archived, load_durable, load_ending, load_head};
 
 // Copies words from a position on, up to another or to the first that isn't matched, and gives where it ended.
 fn copy_words<T: Part>(
@@ -28,12 +29,14 @@ fn copy_words<T: Part>(
     ensures reads { Reads ring.now.slots from to seat.old.me.0 seat.new.me.0 buf.new result }
 {
     let mut next = from;
+    let mut cursor = Cursor::new(ring, from);
     while next < to {
-        let word = load_ahead(ring, seat, next);
-        if !matched(word, next, ring.slots) {
+        let word = load_ahead(ring, seat, next, cursor);
+        if !cursor.matches(word) {
             return next;
         }
-        buf[(next % ring.slots) as usize] = word;
+        buf[(ring.slots - cursor.left) as usize] = word;
+        cursor = cursor.next(ring, next);
         next += 1;
     }
     next

@@ -5,10 +5,12 @@
 //! Left out: progress, fairness, time, and in which order the calls of two threads come.
 #![tactic(auto)]
 
+mod ahead;
 mod calls;
 mod claim;
 mod copied;
 mod copies;
+mod cursor;
 mod opening;
 mod ordered;
 mod ring;

@@ -13,7 +13,7 @@ ghost use Rattle.go_rule.specs.Views.{frame_of, joining_seat, with_abandoned};
 ghost use Rattle.go_rule.specs.Steps.{IsAt, Claims};
 
 use crate::calls::RingCalls;
-use crate::claim::{CLAIM_MOST, Claim, Fill};
+use crate::claim::{CLAIM_MOST, Claim, Fill, NO_EDGE};
 use crate::copied::Copied;
 use crate::copies::copy_ring;
 use crate::room::Room;
@@ -26,13 +26,6 @@ use go_rule::{
     store_durable, store_flag,
 };
 use go_word::Edge;
-
-// What stands behind the edges of a claim.
-const NO_EDGE: Edge = Edge {
-    del: false,
-    src: 0,
-    dst: 0,
-};
 
 impl<T: Part> RingCalls<T> for Ring<T> {
     ghost table = { λ r. r.table.shared.table_id };
@@ -101,8 +94,12 @@ impl<T: Part> RingCalls<T> for Ring<T> {
         if claim.first + claim.len > released + self.slots {
             return Fill::Held { claim, released };
         }
-        let Claim { first, len, edges } = claim;
-        store_all(self, seat, first, &edges[..len as usize]);
+        store_all(self, seat, claim.first, &claim.edges[..claim.len as usize]);
+        let Claim {
+            first,
+            len: _,
+            edges: _,
+        } = claim;
         Fill::Done { position: first }
     }
 
@@ -113,8 +110,12 @@ impl<T: Part> RingCalls<T> for Ring<T> {
         ensures stays { (seat.new.table_id ≡ seat.old.table_id) × (seat.new.id ≡ seat.old.id) }
         ensures given_up { seat.new.me ≡ (for_each with_abandoned (entries_in claim) seat.old.me.0, seat.old.me.1) }
     {
-        let Claim { first, len, edges } = claim;
-        abandon_all(self, seat, first, &edges[..len as usize]);
+        abandon_all(self, seat, claim.first, &claim.edges[..claim.len as usize]);
+        let Claim {
+            first: _,
+            len: _,
+            edges: _,
+        } = claim;
     }
 
     fn take(&self, seat: &mut Seat<T>, from: u64, out: &mut [Edge]) -> usize {

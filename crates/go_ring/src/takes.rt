@@ -3,10 +3,11 @@ ghost use Rattle.std.specs.Prelude.{◌≡◌, ◌+◌, ◌≤◌, length, take,
 ghost use Rattle.go_rule.specs.Steps.{IsAt, CanTakeNext};
 ghost use Rattle.go_ring.specs.Takes.{TakeIs, IsLongest};
 
+use crate::cursor::Cursor;
 use crate::ordered::load_in_turn;
 use go_core::Part;
 use go_rule::{Ring, Seat};
-use go_word::{Edge, decode, matched};
+use go_word::{Edge, decode};
 
 // Reads words from a position on, up to the first that isn't matched or to the end of the room, and puts their entries there.
 pub(crate) fn take_run<T: Part>(
@@ -24,14 +25,16 @@ pub(crate) fn take_run<T: Part>(
     ensures longest { IsLongest ring.now.slots (length out.old) seat.old.me.0 from result }
 {
     let mut count = 0;
+    let mut cursor = Cursor::new(ring, from);
     while count < out.len() {
         let at = from + count as u64;
-        let word = load_in_turn(ring, seat, at);
-        if !matched(word, at, ring.slots) {
+        let word = load_in_turn(ring, seat, at, cursor);
+        if !cursor.matches(word) {
             return count;
         }
         out[count] = decode(word);
         count += 1;
+        cursor = cursor.next(ring, at);
     }
     count
 }

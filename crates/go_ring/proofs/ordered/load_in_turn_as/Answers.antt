@@ -7,6 +7,7 @@ use Rattle.go_rule.specs.Meaning.{meaning}
 use Rattle.go_rule.specs.Views.{frame_of}
 use Rattle.go_rule.specs.Rule.{IsRuled}
 use Rattle.go_ring.specs.Takes.{ReadsInTurn}
+use Rattle.go_ring.proofs.Cursors.{index_within}
 use Rattle.go_ring.proofs.Unseen.{in_turn_allowed}
 use Rattle.go_ring.proofs.ordered.load_in_turn_as.Goals as goal
 
@@ -21,12 +22,13 @@ load-requires g c =
     let kept = in_turn_allowed m (record { stands_on = g.met.T.Part.stands_on; recovers_on = g.met.T.Part.recovers_on }) t.key t.table_id.slots seat.id seat.me
     c.requires.at_ring.1 say at c.requires.can
     in
+    let index = c.args.cursor.index in
     let same : t.key.layout.ring ≡ g.E.Place.slots = sym ring.slots_is ∙ c.requires.picked.1 in (
       c.requires.at_ring.0,
-      c.place-place.ensures.within,
-      subst (λ (n : ℕ). Allows (IsRuled m t.key) t.table_id.slots seat.id seat.me c.place-place.result (λ k. k) (ReadsInTurn n g.E.Place.at say seat.me)) same
-          (subst (λ (p : ℕ). Allows (IsRuled m t.key) t.table_id.slots seat.id seat.me c.place-place.result (λ k. k)
+      index_within t.key t.table_id.words ring.slots ring.shards at c.args.cursor ring.some ring.slots_is ring.shards_is ring.words_is c.requires.on,
+      subst (λ (n : ℕ). Allows (IsRuled m t.key) t.table_id.slots seat.id seat.me index (λ k. k) (ReadsInTurn n g.E.Place.at say seat.me)) same
+          (subst (λ (p : ℕ). Allows (IsRuled m t.key) t.table_id.slots seat.id seat.me index (λ k. k)
           (ReadsInTurn t.key.layout.ring p say seat.me)) c.requires.picked.0
           (subst (λ (j : ℕ). Allows (IsRuled m t.key) t.table_id.slots seat.id seat.me j (λ k. k) (ReadsInTurn t.key.layout.ring at say seat.me))
-          (sym c.place-place.ensures.is) kept)),
+          (sym c.requires.on.index) kept)),
     )
