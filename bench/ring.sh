@@ -1,8 +1,8 @@
 #!/usr/bin/env bash
 # 1, 2, 4 and 8 threads put 10,000,000 edges between them, in claims of 1 and of 64, into a ring of 65,536 slots, while one thread takes
-# them and moves both fronts: by go_bench, whose thread takes each entry twice, once for each front; and by the two plain Rust programs of
-# baseline/ring.rs in the same run, over the same words as plain atomics, whose thread takes each entry once, and over a vector under a
-# mutex. Prints seconds, the least of five runs, nanoseconds an entry, and both ratios. What was taken is compared by its sum.
+# each twice, for the shard and for the file, and moves both fronts: by go_bench, and by the two plain Rust programs of baseline/ring.rs in
+# the same run, over the same words as plain atomics, and over a vector under a mutex. Prints seconds, the least of five runs, nanoseconds
+# an entry, and both ratios. What was taken is compared by its sums.
 set -eu
 source "$(dirname "$0")/prepare.sh" ring
 entries=${1:-10000000}

@@ -9,7 +9,7 @@ ghost use Rattle.go_bench.specs.Shares.{MayShare};
 
 use crate::edges::{Shape, VERTICES, edges_from};
 use crate::ring_puts::{EDGES, put_all, put_eight, put_four, put_two};
-use crate::ring_worker::work;
+use crate::ring_worker::{Sums, work};
 use go_core::{PartState, Pins};
 use go_ring::{RingCalls, open};
 use go_rule::{Layout, Opened, Ring, Seat};
@@ -39,9 +39,14 @@ pub fn run<R: Threads + Clock + Print + Eprint + Sync>(
     let edges = edges_from(alloc, Shape::Spread, 0, EDGES)?;
     let Opened { ring, seat } = opened(alloc, u64::from(each) * 8)?;
     let begin = Instant::now(rt)?;
-    let sum = put_and_work(rt, &ring, seat, &edges, each, threads, claim.clamp(1, 64));
+    let sums = put_and_work(rt, &ring, seat, &edges, each, threads, claim.clamp(1, 64));
     let took = begin.elapsed(rt)?;
-    println!(rt; "{} entries, sum {sum}", u64::from(each) * 8)?;
+    println!(rt;
+        "{} entries, sums {} and {}",
+        u64::from(each) * 8,
+        sums.archived,
+        sums.durable
+    )?;
     eprintln!(rt; "{}", took.as_micros())
 }
 
@@ -112,7 +117,7 @@ fn put_by<R: Threads + Sync>(
     }
 }
 
-// The threads that put, and the one that takes: the sum that it came to.
+// The threads that put, and the one that takes: the sums that it came to.
 fn put_and_work<R: Threads + Sync>(
     rt: &R,
     ring: &Ring<PartState>,
@@ -121,7 +126,7 @@ fn put_and_work<R: Threads + Sync>(
     each: u32,
     threads: u32,
     claim: u32,
-) -> u64
+) -> Sums
     requires at { IsAt ring.now.table.shared.table_id archiver.table_id archiver.me.0 }
     requires fresh { IsFresh archiver.me }
     requires quota { (archiver.me.0.share.quota ≡ 8 * each) × (archiver.me.0.share.lot ≡ 2 ^ 32) }
@@ -133,7 +138,7 @@ fn put_and_work<R: Threads + Sync>(
     let entries = u64::from(each) * 8;
     let flusher = ring.split(&mut archiver, 0, 1);
     let seat = ring.split(&mut archiver, entries, 8);
-    let ((), sum) = thread::join(
+    let ((), sums) = thread::join(
         rt,
         move ||
             requires may { MayShare (8 * each) 8 ring.now.table.shared.table_id seat.table_id seat.me.0 }
@@ -142,7 +147,7 @@ fn put_and_work<R: Threads + Sync>(
             requires vertices { ring.now.table.shared.key.layout.vertices ≡ 65536 }
             requires small { 8 * each < 2 ^ 32 }
         { put_by(rt, ring, seat, edges, each, threads, claim) },
-        move || -> u64
+        move || -> Sums
             requires archiver_at { IsAt ring.now.table.shared.table_id archiver.table_id archiver.me.0 }
             requires archiver { IsFree archiver.me × IsWorker 0 0 archiver.me.0 }
             requires flusher_at { IsAt ring.now.table.shared.table_id flusher.table_id flusher.me.0 }
@@ -150,5 +155,5 @@ fn put_and_work<R: Threads + Sync>(
             requires shards { ring.now.table.shared.key.layout.shards ≡ 1 }
         { work(ring, archiver, flusher, entries) },
     );
-    sum
+    sums
 }

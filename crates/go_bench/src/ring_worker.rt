@@ -92,14 +92,22 @@ fn turn(
     Some(count)
 }
 
-/// Takes so many entries twice, and moves the archived front after the first time and the durable one after the second: the sum of
-/// their destinations.
+/// The sums of the destinations of what was taken for the shard, and of what was taken for the file.
+#[derive(Clone, Copy)]
+pub struct Sums {
+    /// For the shard.
+    pub archived: u64,
+    /// For the file.
+    pub durable: u64,
+}
+
+/// Takes so many entries twice, and moves the archived front after the first time and the durable one after the second.
 pub fn work(
     ring: &Ring<PartState>,
     mut archiver: Seat<PartState>,
     mut flusher: Seat<PartState>,
     entries: u64,
-) -> u64
+) -> Sums
     requires archiver_at { IsAt ring.now.table.shared.table_id archiver.table_id archiver.me.0 }
     requires archiver { IsFree archiver.me × IsWorker 0 0 archiver.me.0 }
     requires flusher_at { IsAt ring.now.table.shared.table_id flusher.table_id flusher.me.0 }
@@ -107,7 +115,10 @@ pub fn work(
     requires shards { ring.now.table.shared.key.layout.shards ≡ 1 }
 {
     let mut run = [NO_EDGE; RUN];
-    let mut sum = 0u64;
+    let mut sums = Sums {
+        archived: 0,
+        durable: 0,
+    };
     let mut archived = 0;
     let mut durable = 0;
     let mut left = u64::MAX;
@@ -116,17 +127,18 @@ pub fn work(
             break;
         };
         archived += count as u64;
-        sum = sum.wrapping_add(destinations(&run[..count]));
+        sums.archived = sums.archived.wrapping_add(destinations(&run[..count]));
         let Some(count) = turn(ring, &mut flusher, 1, durable, &mut run) else {
             break;
         };
         durable += count as u64;
-        if count == 0 {
+        sums.durable = sums.durable.wrapping_add(destinations(&run[..count]));
+        if count < RUN {
             thread::yield_now();
         }
         left -= 1;
     }
-    sum
+    sums
 }
 
 // The sum of the destinations of edges.
