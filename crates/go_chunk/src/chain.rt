@@ -161,6 +161,18 @@ impl Chain {
         }
     }
 
+    /// Gives up the words behind the first `len`, and keeps their room.
+    pub fn truncate(&mut self, len: usize)
+        ensures words { self.new.words ≡ take len self.old.words }
+        ensures never_less { self.old.spare ≤ self.new.spare }
+        ensures rises { self.new.spare + length self.new.words ≡ self.old.spare + length self.old.words }
+    {
+        if len < self.len {
+            self.spare += self.len - len;
+            self.len = len;
+        }
+    }
+
     /// Appends the first `k` words to `out`, which is as before where memory is refused.
     pub fn copy_front(&self, k: usize, out: &mut Vec<u64>) -> Result<(), AllocError>
         requires { k ≤ length self.now.words }

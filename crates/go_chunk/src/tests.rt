@@ -96,6 +96,26 @@ fn a_slice_goes_behind_what_is_there(rt: HostRuntime) -> Result<(), Fail> {
 }
 
 #[test]
+fn a_shortened_chain_takes_other_words_in_their_place(rt: HostRuntime) -> Result<(), Fail> {
+    for len in [0, 3, 4, 19, 20, 99] {
+        let mut chain = counted(&rt, 100)?;
+        chain.truncate(len);
+        assert_eq!(rt; chain.len(), len);
+        assert!(rt; chain.spare() >= 100 - len, "of {len}");
+        assert!(rt; chain.spare() >= 1, "of {len}");
+        chain.push(700);
+        assert!(rt; len < chain.len());
+        assert_eq!(rt; chain.get(len), 700, "of {len}");
+        if len > 0 {
+            assert_eq!(rt; chain.get(len - 1), len as u64 - 1, "of {len}");
+        }
+        chain.truncate(200);
+        assert_eq!(rt; chain.len(), len + 1);
+    }
+    Ok(())
+}
+
+#[test]
 fn a_hub_of_over_a_million_words_grows_by_slices(rt: HostRuntime) -> Result<(), Fail> {
     let mut chain = Chain::new(rt.alloc());
     let mut slice = Vec::with_capacity(rt.alloc(), 4096)?;
