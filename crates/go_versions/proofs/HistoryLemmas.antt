@@ -235,6 +235,22 @@ pub count_at-pushed : (now all : List Version) (v : Version) (front count f : �
 count_at-pushed now all v front count f is longer =
     ap (λ l. count_at l f) (longer ∙ ap (λ w. now ++ w ∷ []) is) ∙ count_at-push now (record { front = front; count = count }) f
 
+-- the first versions of a rising list rise
+pub IsRising-take : (vs : List Version) (n : ℕ) → IsRising vs → IsRising (take n vs)
+IsRising-take vs n h = IsRising-left (take n vs) (drop n vs) (subst IsRising (sym (take-append-drop n vs)) h)
+
+-- the whole without its last version is the first part, and the later one without its last
+past_first : (xs ys : List Version) → 0 < length ys → xs ++ take (length ys - 1) ys ≡ take (length (xs ++ ys) - 1) (xs ++ ys)
+past_first [] ys some = refl
+past_first (x ∷ xs) ys some =
+    let step : suc (length (xs ++ ys)) - 1 ≡ suc (length (xs ++ ys) - 1) = omega (arith, length-append xs ys, some) in
+    rw step (ap (λ l. x ∷ l) (past_first xs ys some))
+
+pub forgotten_later : (early noted left now : List Version) (n : ℕ) → early ++ noted ≡ now → 0 < length noted → n ≡ length noted - 1 →
+    left ≡ take n noted → early ++ left ≡ take (length now - 1) now
+forgotten_later early noted left now n is some counted cut =
+    ap (λ l. early ++ l) (cut ∙ ap (λ k. take k noted) counted) ∙ past_first early noted some ∙ ap (λ l. take (length l - 1) l) is
+
 -- two parts without their first versions are the whole without them
 drop-both : (xs ys : List Version) (n m : ℕ) → m ≡ min n (length xs) → drop m xs ++ drop (n - m) ys ≡ drop n (xs ++ ys)
 drop-both [] ys n m is = let none : m ≡ 0 = omega arith in let all : n - 0 ≡ n = omega arith in rw (none, all) refl

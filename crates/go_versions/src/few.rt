@@ -1,5 +1,5 @@
 //! The first versions, in place.
-ghost use Rattle.std.specs.Prelude.{◌≡◌, ◌<◌, ◌≤◌, ◌++◌, ◌∷◌, [], length, drop};
+ghost use Rattle.std.specs.Prelude.{◌≡◌, ◌<◌, ◌≤◌, ◌-◌, ◌++◌, ◌∷◌, [], length, take, drop};
 
 use crate::version::StoredVersion;
 use std::marker::Model;
@@ -65,6 +65,13 @@ impl Few {
     {
         self.versions[self.used as usize] = version;
         self.used += 1;
+    }
+
+    /// Takes out the last version, if there is one.
+    pub(crate) fn drop_last(&mut self)
+        ensures { self.new ≡ take (length self.old - 1) self.old }
+    {
+        self.used = self.used.saturating_sub(1);
     }
 
     /// Takes out the first `count` versions.

@@ -6,8 +6,8 @@
 //! fronts rise along the list, that is the one with the greatest front there.
 //! A caller may rely on this: `at` answers `count_at`; a note changes no answer before its front; retiring
 //! a front changes no answer from there on, and keeps one version at or below it at most; a refused
-//! `reserve` changes nothing but the room. `at` is a binary search.
-//! Left out: a version can't be changed or taken back, and nothing is answered below the retired front.
+//! `reserve` changes nothing but the room. `at` is a binary search, and `forget_last` takes the last note back.
+//! Left out: a version can't be changed, and nothing is answered below the retired front.
 #![tactic(auto)]
 
 mod few;

@@ -1,6 +1,6 @@
 //! The versions of one number, by front.
 ghost use Rattle.std.specs.Prelude.{◌≡◌, ℕ, ◌<◌, ◌≤◌, ◌+◌, ◌-◌, ◌∷◌, ◌++◌, [], All, IsOk};
-ghost use Rattle.std.specs.Prelude.{OnOk, count_by, drop, length, slice_index_or, if◌then◌else◌, nat_le, vec_capacity, vec_len, IfOk};
+ghost use Rattle.std.specs.Prelude.{OnOk, count_by, take, drop, length, slice_index_or, if◌then◌else◌, nat_le, vec_capacity, vec_len, IfOk};
 ghost use Rattle.std.specs.List.Sorted.{IsPartitionPoint};
 ghost use Rattle.go_versions.specs.Version.{Version};
 ghost use Rattle.go_versions.specs.History.{reaches, count_at, IsRising};
@@ -107,6 +107,20 @@ impl Versions {
             0
         } else {
             self.count_of(reached - 1)
+        }
+    }
+
+    /// Takes the last note back, if there is one, and keeps its room.
+    pub fn forget_last(&mut self)
+        ensures versions { self.new.versions ≡ take (length self.old.versions - 1) self.old.versions }
+        ensures retired { self.new.retired ≡ self.old.retired }
+        ensures never_less { self.old.spare ≤ self.new.spare }
+    {
+        if self.noted.is_empty() {
+            self.early.drop_last();
+        } else {
+            let left = self.noted.len() - 1;
+            self.noted.truncate(left);
         }
     }
 
@@ -294,6 +308,26 @@ mod tests {
             assert!(rt; 13 <= front);
             assert_eq!(rt; versions.at(front), count, "at {front}, retired");
         }
+        Ok(())
+    }
+
+    #[test]
+    fn a_note_that_is_taken_back_leaves_those_before_it(rt: HostRuntime) -> Result<(), Fail> {
+        let mut versions = noted(&rt)?;
+        versions.reserve()?;
+        versions.note(15, 7);
+        assert_eq!(rt; versions.at(99), 7);
+        versions.forget_last();
+        assert_eq!(rt; versions.at(99), 4);
+        versions.forget_last();
+        versions.forget_last();
+        assert_eq!(rt; versions.at(99), 4);
+        versions.forget_last();
+        assert_eq!(rt; versions.at(99), 2);
+        assert_eq!(rt; versions.at(2), 0);
+        versions.forget_last();
+        versions.forget_last();
+        assert_eq!(rt; versions.at(99), 0);
         Ok(())
     }
 
