@@ -185,3 +185,8 @@ accepted_some front lane ws words promised some few left more longer =
 pub at_ok : {T E : Type 0} (P : Type 0) (r : Result T E) → is_err r ≡ false → OnOk r P → P
 at_ok P (Ok x) none h = h
 at_ok P (Err e) none h = absurd (true≢false none)
+
+-- and what holds on an `Err` holds where there is one
+pub at_err : {T E : Type 0} (P : Type 0) (r : Result T E) → is_err r ≡ true → OnErr r P → P
+at_err P (Ok x) some h = absurd (true≢false (sym some))
+at_err P (Err e) some h = h

@@ -1,5 +1,5 @@
 -- What a shard holds of one vertex.
-use Rattle.std.specs.Prelude.{◌≡◌, ◌==◌, ℕ, ◌+◌, ◌-◌, ◌<◌, ◌≤◌, ◌/◌, if◌then◌else◌, Bool, List, [], ◌∷◌, ◌++◌, length, take, drop, All, slice_index_or}
+use Rattle.std.specs.Prelude.{◌≡◌, ◌==◌, ℕ, ◌+◌, ◌-◌, ◌<◌, ◌≤◌, ◌/◌, if◌then◌else◌, Bool, List, [], ◌∷◌, ◌++◌, length, take, drop, fold, All, slice_index_or}
 use Rattle.go_word.specs.declared.edge.Edge.{Edge}
 use Rattle.go_net.specs.Net.{net_of}
 use Rattle.go_versions.specs.Version.{Version}
@@ -39,6 +39,17 @@ accepting front lane word = record lane {
   words = lane.words ++ word ∷ [];
   versions = if lane.promised == 1 then lane.versions ++ record { front = front; count = known lane + 1 } ∷ [] else lane.versions;
   promised = lane.promised - 1;
+}
+
+-- a lane that was promised places for some words, and took them
+abbrev pub taking : ℕ → List ℕ → Lane → Lane
+taking front words lane = fold (accepting front) (promising lane (length words)) words
+
+-- a lane that gave up its last words, so many of them, and the count that was noted last
+abbrev pub without_last : ℕ → Lane → Lane
+without_last n lane = if n == 0 then lane else record lane {
+  words = take (length lane.words - n) lane.words;
+  versions = take (length lane.versions - 1) lane.versions;
 }
 
 -- a front is ahead of all that a lane has noted, and what it noted is no more than it has

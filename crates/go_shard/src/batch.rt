@@ -79,8 +79,8 @@ fn promise_some(
     Ok(())
 }
 
-/// Takes back what was promised to the vertices that the batch names.
-pub(crate) fn withdraw_all(shards: Striping, slots: &mut [Slot], batch: &[Edge])
+// Takes back what was promised to the vertices that the batch names.
+fn withdraw_all(shards: Striping, slots: &mut [Slot], batch: &[Edge])
     requires inside { All (λ e. e.src / shards < length slots.old) batch.now }
     ensures { (place : ℕ) → lane_at slots.new place
         ≡ (if share_of shards batch.now place == 0

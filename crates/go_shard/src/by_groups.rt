@@ -1,11 +1,10 @@
 // A batch that names many vertices, taken vertex by vertex.
-ghost use Rattle.std.specs.Prelude.{◌≡◌, ℕ, ◌+◌, ◌<◌, ◌^◌, length, All, fold, take, OnOk, OnErr};
-ghost use Rattle.go_shard.specs.Lane.{lane_at, promising, accepting, known, IsAhead, IsRestored};
+ghost use Rattle.std.specs.Prelude.{◌≡◌, ℕ, ◌+◌, ◌<◌, ◌≤◌, ◌^◌, if◌then◌else◌, length, All, take, nat_lt, OnOk, OnErr};
+ghost use Rattle.go_shard.specs.Lane.{lane_at, taking, without_last, known, IsAhead};
 ghost use Rattle.go_shard.specs.Batch.{CanTakeBatch, HaveTakenBatch};
-ghost use Rattle.go_shard.specs.Listing.{ListsBare};
+ghost use Rattle.go_shard.specs.Listing.{ListsBare, HasListed};
 ghost use Rattle.go_shard.specs.Groups.{size_at, group_at, IsCut};
 
-use crate::batch::withdraw_all;
 use crate::groups::grouped;
 use crate::listing::promise_listed;
 use crate::slot::Slot;
@@ -29,59 +28,82 @@ pub(crate) fn take_by_groups(
 {
     let groups = grouped(alloc, shards, slots.len(), batch)?;
     let before = listed.len();
-    let promised = promise_groups(alloc, slots, listed, &groups.ends);
-    if promised.is_err() {
+    let reached = take_groups(alloc, slots, listed, &groups.ends, &groups.words, front);
+    if reached < slots.len() {
         listed.truncate(before);
-        withdraw_all(shards, slots, batch);
-        return promised;
+        give_back_groups(slots, &groups.ends, reached);
+        return Err(AllocError);
     }
-    accept_groups(slots, &groups.ends, &groups.words, front);
     Ok(())
 }
 
-// Promises each vertex as many places as its group has words, up to where memory is refused.
-fn promise_groups(
+// Takes the words of each vertex's group, vertex by vertex up to where memory is refused, and tells how many took theirs.
+fn take_groups(
     alloc: Global,
     slots: &mut [Slot],
     listed: &mut Vec<u32>,
     ends: &[u32],
-) -> Result<(), AllocError>
+    words: &[u64],
+    front: u64,
+) -> usize
     requires places { length slots.old < 2 ^ 32 }
     requires whole { length ends.now ≡ length slots.old }
-    requires cut { IsCut ends.now (2 ^ 32) }
+    requires cut { IsCut ends.now (length words.now) }
     requires settled { All (λ lane. lane.promised ≡ 0) slots.old }
-    ensures ok { OnOk result ((place : ℕ) → place < length slots.old →
-        lane_at slots.new place ≡ promising (lane_at slots.old place) (size_at ends.now place)) }
-    ensures kept { (place : ℕ) → place < length slots.old →
-        IsRestored (size_at ends.now place) (lane_at slots.old place) (lane_at slots.new place) }
-    ensures listed { OnOk result (ListsBare slots.old (size_at ends.now) listed.old.items listed.new.items) }
+    requires ahead { All (IsAhead front) slots.old }
+    requires small { All (λ lane. known lane + length words.now < 2 ^ 32) slots.old }
+    ensures within { result ≤ length slots.old }
+    ensures taken { (place : ℕ) → lane_at slots.new place ≡ (if nat_lt place result
+        then taking front (group_at ends.now words.now place) (lane_at slots.old place) else lane_at slots.old place) }
+    ensures listed { result ≡ length slots.old → ListsBare slots.old (size_at ends.now) listed.old.items listed.new.items }
     ensures before { take (length listed.old.items) listed.new.items ≡ listed.old.items }
 {
     let mut from = 0;
     for place in 0..slots.len() {
-        let to = ends[place];
-        let more = (to - from) as usize;
-        promise_listed(alloc, &mut slots[place], listed, place as u32, more)?;
+        let to = ends[place] as usize;
+        let slot = &mut slots[place];
+        if take_listed(alloc, slot, listed, place as u32, &words[from..to], front).is_err() {
+            return place;
+        }
         from = to;
     }
+    slots.len()
+}
+
+// Takes the words of a vertex's group, and lists its place where it had none.
+fn take_listed(
+    alloc: Global,
+    slot: &mut Slot,
+    listed: &mut Vec<u32>,
+    place: u32,
+    words: &[u64],
+    front: u64,
+) -> Result<(), AllocError>
+    requires settled { slot.old.promised ≡ 0 }
+    requires ahead { IsAhead front slot.old }
+    requires small { known slot.old + length words.now < 2 ^ 32 }
+    ensures ok { OnOk result (slot.new ≡ taking front words.now slot.old) }
+    ensures err { OnErr result (slot.new ≡ slot.old) }
+    ensures listed { OnOk result (HasListed place (length words.now) slot.old listed.old.items listed.new.items) }
+    ensures before { take (length listed.old.items) listed.new.items ≡ listed.old.items }
+{
+    promise_listed(alloc, slot, listed, place, words.len())?;
+    slot.accept(words, front);
     Ok(())
 }
 
-// Takes the words of each vertex's group, for each of which a place was promised.
-fn accept_groups(slots: &mut [Slot], ends: &[u32], words: &[u64], front: u64)
+// Takes the words of the groups of the first vertices, so many of them, away again.
+fn give_back_groups(slots: &mut [Slot], ends: &[u32], count: usize)
+    requires within { count ≤ length slots.old }
     requires whole { length ends.now ≡ length slots.old }
-    requires cut { IsCut ends.now (length words.now) }
-    requires promised { (place : ℕ) → place < length slots.old →
-        (lane_at slots.old place).promised ≡ size_at ends.now place }
-    requires ahead { All (IsAhead front) slots.old }
-    requires small { All (λ lane. known lane + length words.now < 2 ^ 32) slots.old }
-    ensures { (place : ℕ) → place < length slots.old → lane_at slots.new place
-        ≡ fold (accepting front) (lane_at slots.old place) (group_at ends.now words.now place) }
+    requires cut { IsCut ends.now (2 ^ 32) }
+    ensures { (place : ℕ) → lane_at slots.new place ≡ (if nat_lt place count
+        then without_last (size_at ends.now place) (lane_at slots.old place) else lane_at slots.old place) }
 {
     let mut from = 0;
-    for place in 0..slots.len() {
-        let to = ends[place] as usize;
-        slots[place].accept(&words[from..to], front);
+    for place in 0..count {
+        let to = ends[place];
+        slots[place].give_back((to - from) as usize);
         from = to;
     }
 }

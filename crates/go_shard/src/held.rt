@@ -4,7 +4,7 @@ ghost use Rattle.std.specs.Prelude.{All, IfOk, OnOk, OnErr, IsTrue, true, if◌t
 ghost use Rattle.go_net.specs.Net.{net_of};
 ghost use Rattle.go_versions.specs.History.{count_at};
 ghost use Rattle.go_shard.specs.Compacting.{AddsOne, CanCompact, HasRoomFor, Becomes, renewed};
-ghost use Rattle.go_shard.specs.Lane.{empty_lane, promising, accepting, known, list_at, IsAhead};
+ghost use Rattle.go_shard.specs.Lane.{empty_lane, promising, accepting, without_last, known, list_at, IsAhead};
 ghost use Rattle.go_shard.specs.Listing.{is_bare};
 
 use crate::renewal::{Base, Renewal};
@@ -110,6 +110,16 @@ impl Held {
             let count = self.floor() + self.tail.len() as u32;
             self.versions.note(front, count);
         }
+    }
+
+    /// Gives up the last words, so many of them, and the count that was noted last.
+    pub(crate) fn give_back(&mut self, count: usize)
+        requires { 0 < count }
+        ensures { self.new ≡ without_last count self.old }
+    {
+        let left = self.tail.len().saturating_sub(count);
+        self.tail.truncate(left);
+        self.versions.forget_last();
     }
 
     /// How many entries there were at a front.

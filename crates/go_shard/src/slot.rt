@@ -2,7 +2,7 @@
 ghost use Rattle.std.specs.Prelude.{◌≡◌, ◌+◌, ◌<◌, ◌≤◌, ◌^◌, length, fold, nat_lt, IfOk, OnOk, OnErr};
 ghost use Rattle.go_versions.specs.History.{count_at};
 ghost use Rattle.go_shard.specs.Compacting.{CanCompact, HasRoomFor, Becomes, renewed};
-ghost use Rattle.go_shard.specs.Lane.{empty_lane, promising, accepting, known, list_at, IsAhead};
+ghost use Rattle.go_shard.specs.Lane.{empty_lane, promising, accepting, without_last, known, list_at, IsAhead};
 ghost use Rattle.go_shard.specs.Listing.{is_bare};
 
 use crate::held::Held;
@@ -111,6 +111,17 @@ impl Slot {
     {
         if let Some(held) = &mut self.held {
             held.accept(words, front);
+        }
+    }
+
+    /// Gives up the last words, so many of them, and the count that was noted last.
+    pub(crate) fn give_back(&mut self, count: usize)
+        ensures { self.new ≡ without_last count self.old }
+    {
+        if let Some(held) = &mut self.held
+            && 0 < count
+        {
+            held.give_back(count);
         }
     }
 
