@@ -199,7 +199,8 @@ impl Held {
         ensures list { IfOk result (λ list. list.items ≡ net_of self.now.base words.now) }
         ensures room { IfOk result (λ list. 0 < length self.now.base → All AddsOne words.now → 2 * length list.items ≤ vec_capacity list) }
     {
-        let mut list = Vec::new(alloc);
+        let most = self.base().len().saturating_add(words.len());
+        let mut list = Vec::with_capacity(alloc, most)?;
         net(alloc, self.base(), words, &mut list)?;
         if self.base().is_empty() || !add_only(words) {
             list.shrink_to_fit();
@@ -274,7 +275,7 @@ fn add_only(words: &[u64]) -> bool
 fn added(alloc: Global, words: &[u64]) -> Result<Vec<u32>, AllocError>
     ensures { IfOk result (λ list. list.items ≡ net_of [] words.now) }
 {
-    let mut list = Vec::new(alloc);
+    let mut list = Vec::with_capacity(alloc, words.len())?;
     net(alloc, &[], words, &mut list)?;
     Ok(list)
 }

@@ -1,5 +1,5 @@
 // How vertices lie in stripes over shards: which place a vertex has in its shard.
-ghost use Rattle.std.specs.Prelude.{◌≡◌, ◌<◌, ◌/◌};
+ghost use Rattle.std.specs.Prelude.{◌≡◌, ◌<◌, ◌/◌, ◌%◌};
 
 use std::marker::Model;
 
@@ -50,5 +50,17 @@ impl Striping {
             v / self.shards
         };
         place as usize
+    }
+
+    /// The shard of a vertex, likewise.
+    pub(crate) fn shard_of(self, v: u32) -> usize
+        ensures { result ≡ v % self }
+    {
+        let shard = if 1 << self.shift == self.shards {
+            v & (self.shards - 1)
+        } else {
+            v % self.shards
+        };
+        shard as usize
     }
 }
