@@ -67,9 +67,13 @@ pub(crate) fn spend(seats: &mut Vec<Seat>, number: u8)
     ensures { seats.new.items
         ≡ seats_with seats.old.items number (record (seat_at seats.old.items number) { quota = (seat_at seats.old.items number).quota - 1 }) }
 {
-    let seat = seats[number as usize - 1];
-    seats[number as usize - 1] = Seat {
-        quota: seat.quota - 1,
-        ..seat
-    };
+    spend_one(&mut seats[number as usize - 1]);
+}
+
+// Takes one entry off what a session may put, where its seat is.
+fn spend_one(seat: &mut Seat)
+    requires { 1 ≤ seat.old.quota }
+    ensures { seat.new ≡ record seat.old { quota = seat.old.quota - 1 } }
+{
+    seat.quota -= 1;
 }
