@@ -1,5 +1,5 @@
 -- Lemmas on the rows of a front: over a longer log, and with one row more.
-use Rattle.std.proofs.Common.{◌≡◌, ℕ, ◌+◌, ◌<◌, ◌≤◌, ◌^◌, Option, None, Some, List, [], ◌∷◌, ◌++◌, length, take, get_or, ap, arith, sym, ◌∙◌, inl, inr, length-append}
+use Rattle.std.proofs.Common.{◌≡◌, ◌⊎◌, ℕ, ◌+◌, ◌<◌, ◌≤◌, ◌^◌, subst, Option, None, Some, List, [], ◌∷◌, ◌++◌, length, take, get_or, ap, arith, sym, ◌∙◌, inl, inr, length-append}
 use Rattle.std.specs.Prelude.{MatchOption, IfSome}
 use Rattle.std.proofs.lemmas.List.{take-append-le, get_or_append_left}
 use Rattle.std.proofs.Math.Seq.{get_or-append_seam}
@@ -7,7 +7,7 @@ use Rattle.std.proofs.lemmas.Bool.Decides.{leb_tells}
 use Rattle.go_word.specs.declared.edge.Edge.{Edge}
 use Rattle.go_word.specs.Neighbours.{neighbours}
 use Rattle.go_rows.specs.Rows.{IsRow}
-use Rattle.go_plain.specs.FrontRows.{RowsState, AreRowsOf}
+use Rattle.go_plain.specs.FrontRows.{RowsState, AreRowsOf, MayTakeRow}
 use Rattle.go_plain.proofs.ShortLemmas.{neighbours_short}
 
 -- no rows
@@ -48,3 +48,13 @@ rows_more log front rows row are is = record { within = are.within; each = at } 
         let last : v ≡ length rows = omega (arith, h.1, there, length-append rows (row ∷ [])) in
         ap (λ (n : ℕ). get_or (rows ++ row ∷ []) n []) last ∙ get_or-append_seam rows row [] [] ∙ is ∙ ap (neighbours (take front log)) (sym last)
   ]
+
+-- and so a row that was taken over
+pub rows_taken : (log : List Edge) (front v : ℕ) (row : List ℕ) (old new : RowsState) → AreRowsOf log old → front ≤ length log →
+    row ≡ neighbours (take front log) v → MayTakeRow front v row old new → AreRowsOf log new
+rows_taken log front v row old new are within is (inl same) = subst (AreRowsOf log) (sym same) are
+rows_taken log front v row old new are within is (inr took) =
+    subst (AreRowsOf log) (sym took.taken) (rows_more log front old.rows row (of took.same) (is ∙ ap (neighbours (take front log)) took.next)) where
+      of : (old.rows ≡ []) ⊎ (old.front ≡ front) → AreRowsOf log (record { front = front; rows = old.rows })
+      of (inl none) = subst (λ (l : List (List ℕ)). AreRowsOf log (record { front = front; rows = l })) (sym none) (rows_none log front within)
+      of (inr here) = subst (λ (n : ℕ). AreRowsOf log (record { front = n; rows = old.rows })) here are

@@ -1,12 +1,14 @@
 // The rows of a front that is asked again and again.
 ghost use Rattle.std.specs.Prelude.{◌≡◌, ◌≤◌, [], length, MatchOption};
 ghost use Rattle.go_rows.specs.Rows.{IsRow};
+ghost use Rattle.go_plain.specs.FrontRows.{MayTakeRow};
 
 use go_rows::Rows;
 use std::alloc::Global;
 use std::marker::Model;
 
-/// The neighbours of all vertices after one front, side by side, where that front was asked often enough to be worth it.
+/// The neighbours of the first vertices after one front, side by side: those that were asked for in their order, or all where that
+/// front was asked often enough to be worth it.
 #[derive(Drop)]
 pub struct FrontRows {
     front: u64,
@@ -61,6 +63,20 @@ impl FrontRows {
             self.rows.row(vertex as usize)
         } else {
             None
+        }
+    }
+
+    /// Takes the row of a vertex after a front over, where it is the next one of the front whose rows are there, or where none are.
+    /// Where there is no memory for it, it isn't kept.
+    pub fn take_next(&mut self, front: u64, vertex: u32, row: &[u32])
+        ensures { MayTakeRow front vertex row.now self.old self.new }
+    {
+        let count = self.rows.len();
+        if vertex as usize == count
+            && (front == self.front || count == 0)
+            && self.rows.push_row(row).is_ok()
+        {
+            self.front = front;
         }
     }
 

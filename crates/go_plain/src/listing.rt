@@ -39,7 +39,9 @@ impl<D: Disk> Body<D> {
         let mut scratch = self.lend();
         let listed = self.list(front, vertex, &mut scratch.words, out);
         self.take_back(scratch);
-        listed
+        listed?;
+        self.keep_row(front, vertex, out);
+        Ok(())
     }
 
     /// How many neighbours a vertex has in the view at a place of a session.
@@ -115,6 +117,16 @@ impl<D: Disk> Body<D> {
                 self.rows.keep(front, rows);
             }
         }
+    }
+
+    // Keeps the list of a vertex after the front of a view as a row where the rows so far lead up to it, so that what goes over all
+    // vertices in their order lists them for what comes next.
+    fn keep_row(&mut self, front: u64, vertex: u32, list: &[u32])
+        requires viewed { HasView self.old front }
+        requires lists { list.now ≡ neighbours (take front self.old.log) vertex }
+        ensures { self.new ≡ self.old }
+    {
+        self.rows.take_next(front, vertex, list);
     }
 
     // The neighbours of all vertices after the front of a view.

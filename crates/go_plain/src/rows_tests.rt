@@ -42,12 +42,36 @@ fn rows_are_listed_once_as_many_questions_came_as_there_are_vertices(
     ];
     put_all(&mut session, &edges)?;
     view(&mut session, 0)?;
-    assert_view(&rt, rt.alloc(), &mut session, 0, &edges)?;
+    for _ in 0..8 {
+        assert_neighbours(&rt, rt.alloc(), &mut session, 0, 1, &[3, 2])?;
+    }
     assert_eq!(rt; session.rows(), 0);
     assert_neighbours(&rt, rt.alloc(), &mut session, 0, 1, &[3, 2])?;
     assert_eq!(rt; session.rows(), 8);
     assert_view(&rt, rt.alloc(), &mut session, 0, &edges)?;
     assert_eq!(rt; degree(&mut session, 0, 1)?, 2);
+    assert_eq!(rt; session.rows(), 8);
+    Ok(())
+}
+
+#[test]
+fn lists_of_vertices_in_their_order_are_kept_as_rows(rt: HostRuntime) -> Result<(), Fail> {
+    let mut session = first_session(rt.alloc(), 4)?;
+    let edges = [add(0, 2), add(1, 3), add(0, 2), del(0, 2), add(2, 0)];
+    put_all(&mut session, &edges)?;
+    view(&mut session, 0)?;
+    for (vertex, rows) in [(1, 0), (0, 1), (2, 1), (1, 2), (0, 2), (2, 3)] {
+        let mut want = Vec::new(rt.alloc());
+        neighbours_of(&edges, vertex, &mut want)?;
+        assert_neighbours(&rt, rt.alloc(), &mut session, 0, vertex, &want)?;
+        assert_eq!(rt; session.rows(), rows, "after {vertex}");
+    }
+    // A list of a later front is no row of this one.
+    put_all(&mut session, &[add(3, 3)])?;
+    view(&mut session, 1)?;
+    assert_neighbours(&rt, rt.alloc(), &mut session, 1, 3, &[3])?;
+    assert_eq!(rt; session.rows(), 3);
+    assert_view(&rt, rt.alloc(), &mut session, 0, &edges)?;
     assert_eq!(rt; session.rows(), 8);
     Ok(())
 }
