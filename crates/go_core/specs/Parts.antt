@@ -13,14 +13,15 @@ use Rattle.go_word.specs.Pins.{is_named}
 use Rattle.go_core.specs.Pins.{owns_name}
 use Rattle.go_core.specs.Rule.{IsWritten}
 
--- the moment of a disk, and the count of its faults
+-- the moment of a disk, the count of its faults, and whether it tells what it holds
 pub record Mark : Type 0 where
   pub clock : ℕ
   pub faults : ℕ
+  pub tells : Bool
 
--- what has no disk has no moment and no faults
+-- what has no disk has no moment and no faults, and tells nothing
 abbrev pub no_mark : Mark
-no_mark = record { clock = 0; faults = 0 }
+no_mark = record { clock = 0; faults = 0; tells = false }
 
 -- a part of which no more is known than its state reaches no further than the log
 abbrev pub Reaches : PartState → List Edge → Type 0

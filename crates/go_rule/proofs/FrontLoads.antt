@@ -25,10 +25,11 @@ use Rattle.go_rule.specs.declared.view.SeatView.{SeatView}
 use Rattle.go_rule.specs.Meaning.{Meaning, IsLasting}
 use Rattle.go_rule.specs.Views.{frame_of, with_head, with_archived, with_durable, with_ending, with_ahead}
 use Rattle.go_rule.specs.Rule.{IsBelow, cores, pins_at, IsRuled}
-use Rattle.go_rule.specs.Steps.{SeesOn, FrontIs, IsRead, LoadsHead, LoadsArchived, LoadsDurable, LoadsEnding, LoadsAhead, CanEnd}
+use Rattle.go_rule.specs.Steps.{SeesOn, FrontIs, IsRead, LoadsHead, LoadsArchived, LoadsDurable, LoadsEnding, LoadsAhead, CanEnd, TellsLog}
 use Rattle.go_rule.proofs.Lists.{lookup_take, get_there, all_places}
 use Rattle.go_rule.proofs.Beside.{IsRuledSeat, core_there, Beside, allowed}
 use Rattle.go_rule.proofs.Alone.{whole_log}
+use Rattle.go_rule.proofs.LogTold.{tells_log}
 use Rattle.go_rule.proofs.Renewals.{sees_on, read_beside, renewed_sees, old_kept, told_now, seen_window, numbers_to, log_small}
 
 module _ {P : Type 0} (m : Meaning P) (laws : IsLasting m) (key : Key P) where
@@ -159,6 +160,7 @@ module _ {P : Type 0} (m : Meaning P) (laws : IsLasting m) (key : Key P) where
             durable = omega arith;
             small = let few = log_small m laws key s log parts id d ruled in omega arith;
             whole = λ whole. let all = whole_log m laws key s log parts ruled.by id d ruled.there whole in omega arith;
+            tells = subst (λ k. TellsLog (frame_of key) k d) (sym head) (tells_log m laws key s log parts id d ruled);
           },
         )))
 

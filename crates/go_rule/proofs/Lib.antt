@@ -4,6 +4,7 @@ pub mod Beginnings
 pub mod Beside
 pub mod Alone
 pub mod Renewals
+pub mod LogTold
 pub mod FrontLoads
 pub mod Openings
 pub mod Samples

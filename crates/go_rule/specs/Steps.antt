@@ -1,5 +1,5 @@
 -- What each kind of step tells the seat that takes it, by the number that its word had.
-use Rattle.std.specs.Prelude.{◌≡◌, ◌⊎◌, ℕ, ◌+◌, ◌^◌, ◌<◌, ◌≤◌, max, true, false, List, length, take, All, Contains}
+use Rattle.std.specs.Prelude.{◌≡◌, ◌⊎◌, ℕ, ◌+◌, ◌^◌, ◌<◌, ◌≤◌, max, true, false, List, length, take, All, AllPairs, Contains}
 use mathlib.Core.Option.{some}
 use lib.ListN.{get_elem?}
 use Rattle.atomic_table.specs.Seated.{TableId}
@@ -10,12 +10,13 @@ use Rattle.go_core.specs.declared.entry.Entry.{Entry}
 use Rattle.go_core.specs.declared.entry.Load.{Load}
 use Rattle.go_core.specs.declared.part.PartState.{PartState}
 use Rattle.go_core.specs.Frame.{Frame}
+use Rattle.go_core.specs.View.{stands}
 use Rattle.go_core.specs.Parts.{IsShardPlace}
 use Rattle.go_rule.specs.declared.view.Note.{Note}
 use Rattle.go_rule.specs.declared.view.PlacedPin.{PlacedPin}
 use Rattle.go_rule.specs.declared.view.Stand.{Stand}
 use Rattle.go_rule.specs.declared.view.SeatView.{SeatView}
-use Rattle.go_rule.specs.Rule.{IsBelow}
+use Rattle.go_rule.specs.Rule.{IsBelow, Begins}
 use Rattle.go_rule.specs.Views.{entries_of, with_head, with_archived, with_durable, with_ending, claiming, with_stored, with_ahead, with_unmoved, with_took}
 use Rattle.go_rule.specs.Views.{with_archiving, with_flushing, with_flag, with_raised, with_abandoned}
 
@@ -49,6 +50,25 @@ pub record FrontIs {P : Type 0} (f : Frame) (known : ℕ) (d : SeatView P) (n : 
   pub small : n < 2 ^ 32
   pub whole : d.share.lot ≡ 2 ^ 32 → n ≤ f.first + entries_of d.core
 
+-- an entry is the log's, which is so long, and stands in what is seen of that, unless that ends before it
+pub record IsLogged (length_is : ℕ) (seen : List Edge) (x : Entry) : Type 0 where
+  pub within : x.at < length_is
+  pub there : x.at < length seen → get_elem? seen x.at ≡ some x.edge
+
+-- the entries of a seat rise in position, and each is the log's
+pub record AreLogged (length_is : ℕ) (seen : List Edge) (xs : List Entry) : Type 0 where
+  pub rising : AllPairs (λ x y. x.at < y.at) xs
+  pub logged : All (IsLogged length_is seen) xs
+
+-- what a seat may tell of a log that is so long: what it has seen lies between vertices of the graph; what it heard at joins, where that is no longer,
+-- begins it; its own entries and those of each seat that was joined in are the log's; and with the whole lot each position from the first on stands once
+pub record TellsLog {P : Type 0} (f : Frame) (length_is : ℕ) (d : SeatView P) : Type 0 where
+  pub below : All (IsBelow d.about.vertices) d.told.seen
+  pub heard : All (λ (xs : List Edge). length xs ≤ length d.told.seen → Begins d.told.seen xs) d.told.heard
+  pub own : AreLogged length_is d.told.seen d.core.own
+  pub joined : All (AreLogged length_is d.told.seen) d.core.joined
+  pub once : d.share.lot ≡ 2 ^ 32 → (p : ℕ) → f.first ≤ p → p < length_is → stands p d.core ≡ 1
+
 module _ {P S : Type 0} where
   -- after a step the seat has a view, and the parts in its hand are as they were
   abbrev pub Becomes : SeatView P → Me S (SeatView P) → Me S (SeatView P) → Type 0
@@ -64,6 +84,7 @@ module _ {P S : Type 0} where
     pub durable : me.0.core.durable ≤ n
     pub small : n < 2 ^ 32
     pub whole : me.0.share.lot ≡ 2 ^ 32 → n ≡ f.first + entries_of me.0.core
+    pub tells : TellsLog f n me.0
 
   -- the archived front is n, and the seat has seen the log up to it; neither a pin of the seat nor the cut of a shard in its hand is past it
   pub record LoadsArchived (state_of : P → PartState) (f : Frame) (step : Step S) (me : Me S (SeatView P)) (n : ℕ) (now : Me S (SeatView P)) : Type 0 where

@@ -1,5 +1,5 @@
 -- What a seat is told of a part whose turn it takes, and as what it may give the part back.
-use Rattle.std.specs.Prelude.{◌≡◌, ◌⊎◌, ℕ, ◌+◌, ◌<◌, ◌≤◌, ◌==◌, Bool, true, false, not, List, [], ◌∷◌, ◌++◌, map, filter, length, All, Contains}
+use Rattle.std.specs.Prelude.{◌≡◌, ◌⊎◌, ℕ, ◌+◌, ◌≤◌, ◌==◌, Bool, true, false, not, List, [], ◌∷◌, ◌++◌, map, filter, length, All, Contains}
 use Rattle.std.specs.Prelude.{find, is_some, Option as Maybe, Some}
 use Rattle.atomic_table.specs.Table.{Step, Me, rest}
 use Rattle.go_text.specs.Causes.{Rose}
@@ -20,9 +20,9 @@ use Rattle.go_rule.specs.Views.{with_unmoved}
 use Rattle.go_rule.specs.Rule.{IsBelow, Begins, has_note, pins_at}
 use Rattle.go_rule.specs.Steps.{Becomes}
 
--- the moment and the count of faults of the file's disk as the ring was made, as each seat knows them
+-- the mark of the file's disk as the ring was made, as each seat knows it
 abbrev pub mark_in : About → Mark
-mark_in about = record { clock = about.clock; faults = about.faults }
+mark_in about = record { clock = about.clock; faults = about.faults; tells = about.tells }
 
 -- the placed pins, where those of a place are these
 abbrev pub with_pins : ℕ → List Pin → List PlacedPin → List PlacedPin

@@ -44,6 +44,7 @@ module _ {P : Type 0} where
     vertices = key.layout.vertices;
     clock = mark.clock;
     faults = mark.faults;
+    tells = mark.tells;
   }
 
   -- no part in the hand, no pin, and nothing known of a part
@@ -63,7 +64,7 @@ module _ {P : Type 0} where
   -- the view of a seat that was joined in
   abbrev pub spent_view : SeatView P
   spent_view = record {
-    about = record { shards = 0; first = 0; vertices = 0; clock = 0; faults = 0 };
+    about = record { shards = 0; first = 0; vertices = 0; clock = 0; faults = 0; tells = false };
     core = spent;
     told = record { seen = []; heard = []; passed = 0; flagged = false };
     share = record { quota = 0; lot = 0 };

@@ -15,6 +15,8 @@ pub struct About {
     pub clock: u64,
     /// The count of its faults as the ring was made.
     pub faults: u64,
+    /// Whether it told then what it held.
+    pub tells: bool,
 }
 
 /// What a seat was told of the log beyond its numbers.
