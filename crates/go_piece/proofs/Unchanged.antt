@@ -13,7 +13,7 @@ use Rattle.go_rule.specs.Rule.{Begins}
 use Rattle.go_rule.specs.Turns.{owns_at, taking, IsTaken, CanGiveShard, CanGive}
 use Rattle.go_piece.specs.declared.piece.Piece.{Piece}
 use Rattle.go_piece.specs.declared.piece.Piece.TheVariants.{Shard, Log, Spent}
-use Rattle.go_piece.specs.Pieces.{state_in, Fits, HasFailed, mark_in}
+use Rattle.go_piece.specs.Pieces.{state_in, Fits, HasFailed, mark_in, OnShard}
 use Rattle.go_piece.specs.Meanings.{meaning_of, IsShardInHand}
 
 module _ {D : Type 0} (device : Device D) (f : Frame) (d : SeatView (Piece D)) (place : ℕ) where
@@ -23,6 +23,13 @@ module _ {D : Type 0} (device : Device D) (f : Frame) (d : SeatView (Piece D)) (
   shard_in_hand shard here taken =
       let of = taken.shard here in
       record { fits = taken.fits; log = take shard.front taken.log; stands = taken.over.stands; cut_pins = of.in_hand.cut_pins; names = of.in_hand.names }
+
+  -- and where that lies in a piece
+  pub piece_in_hand : (piece : Piece D) → IsShardPlace f place → d.about.shards + 5 ≡ f.base → IsTaken (meaning_of device) f d place piece
+      → OnShard (IsShardInHand device d.about place) piece
+  piece_in_hand (Shard shard) here base taken = shard_in_hand shard here taken
+  piece_in_hand (Log kept) here base taken = let at = taken.fits.0 in absurd (omega arith)
+  piece_in_hand (Spent disk front) here base taken = let at = taken.fits.0 in absurd (omega arith)
 
   -- a shard that goes onward with its pins, where they may stand, and stands for what it stood for, is given back
   pub shard_given : (old new : ShardState) → IsShardPlace f place → Fits device (Shard new) place d.about.shards d.about.vertices

@@ -1,5 +1,5 @@
 -- What a piece is to a ring: how far it reaches, where it fits, which log it stands for, and what a crash may have left of it.
-use Rattle.std.specs.Prelude.{◌≡◌, ℕ, ◌<◌, List, [], take, Result, Ok, Err}
+use Rattle.std.specs.Prelude.{◌≡◌, ℕ, ◌<◌, List, [], take, is_some, Result, Ok, Err}
 use Rattle.go_word.specs.declared.edge.Edge.{Edge}
 use Rattle.go_core.specs.declared.part.PartState.{PartState}
 use Rattle.go_core.specs.Parts.{Mark, no_mark}
@@ -9,10 +9,16 @@ use Rattle.go_durable.specs.declared.journal.Journal.TheVariants as journals
 use Rattle.go_durable.specs.Journal.{Keeps as KeepsLog}
 use Rattle.go_durable.specs.Recovery.{Recovers}
 use Rattle.go_shard.specs.Parts.{IsShardOf}
-use Rattle.go_shard.specs.ShardState.{Keeps}
+use Rattle.go_shard.specs.ShardState.{ShardState, Keeps}
 use Rattle.go_shard.specs.Stands.{Stands}
 use Rattle.go_piece.specs.declared.piece.Piece.{Piece}
 use Rattle.go_piece.specs.declared.piece.Piece.TheVariants.{Shard, Log, Spent}
+
+-- a piece is a shard with this
+abbrev pub OnShard : {D : Type 0} → (ShardState → Type 0) → Piece D → Type 0
+OnShard P (Shard shard) = P shard
+OnShard P (Log kept) = ⊥
+OnShard P (Spent disk front) = ⊥
 
 -- the piece that a log's file is
 abbrev pub file_of : {D : Type 0} → Journal D → Piece D
@@ -66,9 +72,9 @@ HasFailed (Shard shard) = ⊥
 HasFailed (Log kept) = ⊥
 HasFailed (Spent disk front) = Unit {0}
 
--- the moment of a disk, and the count of its faults
+-- the moment of a disk, the count of its faults, and whether it tells what it holds
 abbrev pub mark_at : {D : Type 0} → Device D → D → Mark
-mark_at device disk = record { clock = device.clock disk; faults = device.faults disk }
+mark_at device disk = record { clock = device.clock disk; faults = device.faults disk; tells = is_some (device.contents disk) }
 
 -- those of a piece's disk; a shard has none
 abbrev pub mark_in : {D : Type 0} → Device D → Piece D → Mark

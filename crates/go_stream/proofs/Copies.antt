@@ -15,11 +15,11 @@ use Rattle.go_ring.specs.declared.copied.CopyStop.{CopyStop}
 use Rattle.go_ring.specs.declared.copied.CopyStop.TheVariants.{Head, Unwritten, Window}
 use Rattle.go_ring.specs.Calls.{cause_of}
 use Rattle.go_ring.specs.Copies.{GoesOn, Copies, IsCutOff}
-use Rattle.go_turns.specs.Going.{but_known, HasGoneOn}
+use Rattle.go_turns.specs.Going.{but_known, HasGoneOn, IsFlagged}
 use Rattle.go_turns.proofs.Going.{gone_nowhere, gone_further, gone_flag}
 use Rattle.go_stream.specs.declared.wanted.Wanted.{Wanted}
 use Rattle.go_stream.specs.Spans.{IsEnough}
-use Rattle.go_stream.specs.Updates.{HasCome, IsFlagged}
+use Rattle.go_stream.specs.Updates.{HasCome}
 use Rattle.go_stream.proofs.Entries.{decoded}
 
 -- where a copy was cut off
@@ -76,7 +76,7 @@ module _ {P : Type 0} where
         }
 
     -- the flag was found up
-    pub flagged : (why : Stop) → LoadsFlag (step words 3 0 0 none) me (cause_of why) now → IsFlagged f words why first now
+    pub flagged : (why : Stop) → LoadsFlag (step words 3 0 0 none) me (cause_of why) now → IsFlagged f words (cause_of why) first now
     flagged why load =
         record {
           before = me;

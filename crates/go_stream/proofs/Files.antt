@@ -9,7 +9,7 @@ use Rattle.go_word.specs.declared.edge.Edge.{Edge}
 use Rattle.go_api.specs.declared.stop.Stop.{Stop}
 use Rattle.go_api.specs.declared.stop.Stop.TheVariants as stops
 use Rattle.go_core.specs.Frame.{Frame}
-use Rattle.go_core.specs.Parts.{IsFilePlace}
+use Rattle.go_core.specs.Parts.{Mark, IsFilePlace}
 use Rattle.go_disk.specs.Device.{Device, IsDevice}
 use Rattle.go_durable.specs.Journal.{journal_front, is_spent, KeepsOn}
 use Rattle.go_durable.specs.JournalRanging.{IsRanged}
@@ -32,7 +32,7 @@ use Rattle.go_piece.specs.Pieces.{file_of}
 use Rattle.go_piece.specs.Meanings.{meaning_of, stretch, IsLogInHand}
 use Rattle.go_piece.proofs.FileCalls.{keeps_now, log_in_hand, file_read}
 use Rattle.go_piece.proofs.Stretches.{seen_next}
-use Rattle.go_stream.specs.Updates.{IsTold, HasFailed, IsRead, Stops}
+use Rattle.go_stream.specs.Updates.{HasFailed, IsRead, Stops}
 use Rattle.go_stream.proofs.Turns.{KnowsSame, takes_raised, turn_same, turn_knows_taken, turn_knows_given}
 
 -- what holds of that which is told, where something is
@@ -54,10 +54,10 @@ module _ {D : Type 0} (device : Device D) where
   pub read_entries : (about : About) (seen : List Edge) (place : ℕ) (kept : LogState D) (journal : Journal D) (from to : ℕ) (list : List Edge)
       → IsLogInHand device about seen place kept
       → IsRanged device (record { from = from; upto = to; before = []; after = list }) (journals.Sound kept) journal
-      → from ≤ to → to ≤ length seen → IsTold device about → list ≡ stretch from to seen
+      → from ≤ to → to ≤ length seen → about.tells ≡ true → list ≡ stretch from to seen
   read_entries about seen place kept journal from to list held ranged order within told =
       let left = held.left in
-      let one = of_told _ (device.contents left.opened) (told left.opened left.at)
+      let one = of_told _ (device.contents left.opened) (ap (λ (m : Mark). m.tells) left.at ∙ told)
       (ranged.shown about.vertices about.first held.log left.opened left.keeps) in
       one.added ∙ sym (seen_next from (to - from) held.log seen held.begins (omega arith))
 
@@ -104,7 +104,7 @@ module _ {D : Type 0} (device : Device D) where
           shown = λ told.
               subst (λ s. list ≡ stretch from to s) (sym same.seen)
               (read_entries me.0.about me.0.told.seen place kept journal from to list held ranged order within
-              (subst (IsTold device) (ap (λ z. z.about) gone.rest) told));
+              (ap (λ z. z.about.tells) (sym gone.rest) ∙ told));
         }
 
     -- the file as it was read may be given back; where its disk failed, once the flag was raised

@@ -11,10 +11,11 @@ use Rattle.go_core.specs.Frame.{Frame}
 use Rattle.go_disk.specs.Device.{Device}
 use Rattle.go_rule.specs.declared.view.SeatView.{SeatView}
 use Rattle.go_rule.specs.Views.{with_raised}
-use Rattle.go_turns.specs.Going.{HasGoneOn}
+use Rattle.go_ring.specs.Calls.{cause_of}
+use Rattle.go_turns.specs.Going.{HasGoneOn, IsFlagged}
 use Rattle.go_piece.specs.declared.piece.Piece.{Piece}
 use Rattle.go_stream.specs.declared.wanted.Wanted.{Wanted}
-use Rattle.go_stream.specs.Updates.{cursor_after, Updates, IsFlagged, HasFailed}
+use Rattle.go_stream.specs.Updates.{cursor_after, Updates, HasFailed}
 use Rattle.go_stream.specs.Streaming.{CanStream}
 
 module _ {P : Type 0} (f : Frame) (table seat now_seat : TableId) (d now : SeatView P) (cursor : ℕ) where
@@ -37,7 +38,7 @@ module _ {D S : Type 0} (device : Device D) (f : Frame) (slots : ℕ) (table sea
       let long = one.long in
       record { at = old.at; seen = omega arith; ids = old.ids }
   streams_on (Err stops.Disk) list can same one =
-      ⊎_elim (λ (up : IsFlagged f slots stops.Disk me now). still_streams f table seat now_seat me.0 now.0 wanted.from can same up.on)
+      ⊎_elim (λ (up : IsFlagged f slots (cause_of stops.Disk) me now). still_streams f table seat now_seat me.0 now.0 wanted.from can same up.on)
       (λ (failed : HasFailed device f me.0 now.0).
       still_streams f table seat now_seat (with_raised 1 me.0) now.0 wanted.from (record { at = can.at; seen = can.seen; ids = can.ids }) same failed.on)
       one

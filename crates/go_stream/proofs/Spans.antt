@@ -13,13 +13,14 @@ use Rattle.go_disk.specs.Device.{Device}
 use Rattle.go_rule.specs.declared.view.SeatView.{SeatView}
 use Rattle.go_rule.specs.Views.{with_raised}
 use Rattle.go_ring.specs.declared.copied.Copied.{Copied}
-use Rattle.go_turns.specs.Going.{but_known, HasGoneOn}
+use Rattle.go_ring.specs.Calls.{cause_of}
+use Rattle.go_turns.specs.Going.{but_known, HasGoneOn, IsFlagged}
 use Rattle.go_turns.proofs.Going.{knows_further, gone_further}
 use Rattle.go_piece.specs.declared.piece.Piece.{Piece}
 use Rattle.go_piece.specs.Meanings.{stretch}
 use Rattle.go_stream.specs.declared.wanted.Wanted.{Wanted}
 use Rattle.go_stream.specs.Spans.{upto, entries_from}
-use Rattle.go_stream.specs.Updates.{IsFlagged, HasFailed, HasCome, IsRead, IsUpdated, Stops, ring_from}
+use Rattle.go_stream.specs.Updates.{HasFailed, HasCome, IsRead, IsUpdated, Stops, ring_from}
 use Rattle.go_stream.proofs.Entries.{entries_seen}
 
 -- a stretch up to a place, and the one from there on
@@ -59,7 +60,7 @@ module _ {D : Type 0} (device : Device D) (f : Frame) where
       → Stops device f slots why me now → Stops device f slots why first now
   stops_after slots stops.Disk first me now before one =
       ⊎_elim
-      (λ (up : IsFlagged f slots stops.Disk me now).
+      (λ (up : IsFlagged f slots (cause_of stops.Disk) me now).
       inl (record {
         before = up.before;
         after = up.after;

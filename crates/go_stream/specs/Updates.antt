@@ -1,8 +1,8 @@
 -- What an update gives, and what its seat has afterwards.
-use Rattle.std.specs.Prelude.{◌≡◌, ◌⊎◌, ℕ, ◌+◌, ◌-◌, ◌%◌, ◌<◌, ◌≤◌, min, max, List, length, drop, slice_index, IsSome, Result, Ok, Err}
-use mathlib.Core.Option.{some, none}
+use Rattle.std.specs.Prelude.{◌≡◌, ◌⊎◌, ℕ, ◌+◌, ◌-◌, ◌%◌, ◌<◌, ◌≤◌, min, max, true, List, length, drop, slice_index, Result, Ok, Err}
+use mathlib.Core.Option.{some}
 use lib.ListN.{get_elem?}
-use Rattle.atomic_table.specs.Table.{Me, step}
+use Rattle.atomic_table.specs.Table.{Me}
 use Rattle.go_text.specs.Causes.{Rose}
 use Rattle.go_word.specs.declared.edge.Edge.{Edge}
 use Rattle.go_word.specs.Word.{decode}
@@ -12,23 +12,15 @@ use Rattle.go_api.specs.declared.stop.Stop.TheVariants.{Disk, Memory}
 use Rattle.go_core.specs.Frame.{Frame}
 use Rattle.go_disk.specs.Device.{Device}
 use Rattle.go_durable.specs.LogState.{LogState}
-use Rattle.go_rule.specs.declared.view.About.{About}
 use Rattle.go_rule.specs.declared.view.SeatView.{SeatView}
-use Rattle.go_rule.specs.Steps.{LoadsFlag}
-use Rattle.go_rule.specs.Turns.{mark_in as seat_mark}
 use Rattle.go_rule.specs.Views.{with_raised}
 use Rattle.go_ring.specs.declared.copied.Copied.{Copied}
 use Rattle.go_ring.specs.Calls.{cause_of}
-use Rattle.go_turns.specs.Going.{KnowsMore, HasGoneOn}
+use Rattle.go_turns.specs.Going.{HasGoneOn, IsFlagged}
 use Rattle.go_piece.specs.declared.piece.Piece.{Piece}
-use Rattle.go_piece.specs.Pieces.{mark_at}
 use Rattle.go_piece.specs.Meanings.{stretch, IsLogInHand}
 use Rattle.go_stream.specs.declared.wanted.Wanted.{Wanted}
 use Rattle.go_stream.specs.Spans.{upto}
-
--- each disk that is at the mark at which the ring of a seat was made tells its content
-abbrev pub IsTold : {D : Type 0} → Device D → About → Type 0
-IsTold {D} device about = (disk : D) → mark_at device disk ≡ seat_mark about → IsSome (device.contents disk)
 
 -- where a stream stands after an update: behind what was given, and where it stood if the update was stopped
 abbrev pub cursor_after : ℕ → Result Span Stop → ℕ
@@ -62,22 +54,12 @@ module _ {P : Type 0} where
     pub entries : (p : ℕ) → min copied.archived copied.durable ≤ p → p < upto wanted copied.end
         → get_elem? now.told.seen p ≡ some (decode (slice_index buf (p % f.slots)))
 
-  module _ {S : Type 0} where
-    -- a load of the flag in between gave this cause
-    pub record IsFlagged (f : Frame) (slots : ℕ) (why : Stop) (me now : Me S (SeatView P)) : Type 0 where
-      pub before : Me S (SeatView P)
-      pub after : Me S (SeatView P)
-      pub came : KnowsMore me.0 before.0
-      pub load : LoadsFlag (step slots 3 0 0 none) before (cause_of why) after
-      pub left : KnowsMore after.0 now.0
-      pub on : HasGoneOn f me.0 now.0
-
 module _ {D : Type 0} (device : Device D) where
   -- the entries of a span of the log, as many as it is long: those from the ring are the log's, and those from the file where each such disk tells
   pub record Gives (now : SeatView (Piece D)) (span : Span) (list : List Edge) : Type 0 where
     pub so_many : span.from + length list ≡ span.to
     pub ring : drop (ring_from now span - span.from) list ≡ stretch (ring_from now span) span.to now.told.seen
-    pub file : IsTold device now.about → list ≡ stretch span.from span.to now.told.seen
+    pub file : now.about.tells ≡ true → list ≡ stretch span.from span.to now.told.seen
 
   module _ (f : Frame) where
     -- the disk of the log's file failed while the seat had that in its hand, its count of faults rose, and the seat raised the flag for it
@@ -96,7 +78,7 @@ module _ {D : Type 0} (device : Device D) where
       pub archived : now.core.archived ≡ d.core.archived
       pub durable : now.core.durable ≡ d.core.durable
       pub so_many : from + length list ≡ to
-      pub shown : IsTold device now.about → list ≡ stretch from to now.told.seen
+      pub shown : now.about.tells ≡ true → list ≡ stretch from to now.told.seen
 
     -- an update gave a span, and its seat raised nothing
     pub record IsUpdated (wanted : Wanted) (d now : SeatView (Piece D)) (span : Span) (list : List Edge) : Type 0 where
@@ -108,7 +90,7 @@ module _ {D : Type 0} (device : Device D) where
     module _ {S : Type 0} (slots : ℕ) where
       -- what may stop it: for the disk, that a load of the flag gave this, or that the disk failed in hand
       abbrev pub Stops : Stop → Me S (SeatView (Piece D)) → Me S (SeatView (Piece D)) → Type 0
-      Stops Disk me now = IsFlagged f slots Disk me now ⊎ HasFailed me.0 now.0
+      Stops Disk me now = IsFlagged f slots (cause_of Disk) me now ⊎ HasFailed me.0 now.0
       Stops Memory me now = HasGoneOn f me.0 now.0
 
       -- what reading from the file comes to

@@ -3,7 +3,9 @@ ghost use Rattle.std.specs.Prelude.{◌≡◌, ◌≤◌, IfOk, IfErr, length};
 ghost use Rattle.go_word.specs.declared.word.TheConstants.{ID_LIMIT};
 ghost use Rattle.go_rule.specs.Steps.{IsAt};
 ghost use Rattle.go_rule.specs.Views.{frame_of};
-ghost use Rattle.go_stream.specs.Updates.{HasCome, IsFlagged};
+ghost use Rattle.go_ring.specs.Calls.{cause_of};
+ghost use Rattle.go_turns.specs.Going.{IsFlagged};
+ghost use Rattle.go_stream.specs.Updates.{HasCome};
 
 use crate::wanted::Wanted;
 use go_api::Stop;
@@ -29,7 +31,8 @@ pub(crate) fn copy_until<T: Part, R: Wait>(
     ensures long { length buf.new ≡ length buf.old }
     ensures hand { seat.new.me.1 ≡ seat.old.me.1 }
     ensures comes { IfOk result (λ copied. HasCome (frame_of ring.now.table.shared.key) wanted seat.old.me.0 seat.new.me.0 copied buf.new) }
-    ensures stops { IfErr result (λ why. IsFlagged (frame_of ring.now.table.shared.key) ring.now.table.shared.table_id.slots why seat.old.me seat.new.me) }
+    ensures stops { IfErr result (λ why. IsFlagged (frame_of ring.now.table.shared.key) ring.now.table.shared.table_id.slots (cause_of why)
+        seat.old.me seat.new.me) }
 {
     for _ in rt.forever() {
         let copied = ring.copy(seat, buf);

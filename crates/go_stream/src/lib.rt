@@ -20,6 +20,8 @@ pub use live_stream::LiveStream;
 #[cfg(test)]
 mod fixture;
 #[cfg(test)]
+mod memory_tests;
+#[cfg(test)]
 mod tests;
 #[cfg(test)]
 mod thread_tests;

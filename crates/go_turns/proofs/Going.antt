@@ -186,62 +186,69 @@ abbrev noting : {P : Type 0} → List (Note P) → SeatView P → SeatView P
 noting notes d = record d { stake = record d.stake { notes = notes } }
 
 module _ {P : Type 0} (m : Meaning P) (f : Frame) (place : ℕ) (old new : P) (me now then after : Me (Maybe P) (SeatView P)) where
-  -- a part was taken, its seat went on with it in its hand, and gave it back, of a shard with the pins that it had
-  pub gave_back : Takes m f place old me now → HasGoneOn f now.0 then.0 → then.1 ≡ now.1 → Gives m place new then after
-      → (IsShardPlace f place → (m.state_of new).pins ≡ (m.state_of old).pins) → HasGoneOn f me.0 after.0 × (after.1 ≡ me.1)
-  gave_back takes on hand gives same =
+  -- a seat that took a part, went on with it in its hand, and gave it back as another, knows no less, and has in its hand what it had; of the part's pins
+  -- it has those that are its own, and in other places the ones that it had
+  pub record HasGiven : Type 0 where
+    pub knows : KnowsMore me.0 after.0
+    pub rest : but_known after.0 ≡ but_known me.0
+    pub hand : after.1 ≡ me.1
+    pub here : pins_at place after.0 ≡ filter (is_own_or_new (pins_at place then.0) [] (m.state_of old).pins) (m.state_of new).pins
+    pub elsewhere : (other : ℕ) → (other == place) ≡ false → pins_at other after.0 ≡ pins_at other then.0
+
+  pub gave_other : Takes m f place old me now → HasGoneOn f now.0 then.0 → then.1 ≡ now.1 → Gives m place new then after → HasGiven
+  gave_other takes on hand gives =
       let notes : then.0.stake.notes ≡ now.0.stake.notes = ap (λ d. d.stake.notes) on.rest in
-      let gave : after ≡ (given, me.1) = gives old me.0.stake.notes me.1 (holds_on place old me.0.stake.notes me.1 now then notes hand takes.holds) in (
-        subst (HasGoneOn f me.0) (sym (ap (λ z. z.0) gave))
-            (record {
-              knows = knows_further me.0 then.0 given (knows_further me.0 now.0 then.0 knows_taken on.knows) knows_giving;
-              rest = ap (noting me.0.stake.notes) (on.rest ∙ ap but_known view);
-              pins = λ other here pin.
-                  ⊎_elim
-                  (λ (is : (other == place) ≡ true).
-                  subst (λ k. IsShardPlace f k → Contains (pins_at k given) pin ↔ Contains (pins_at k me.0) pin) (sym (is_number other place is)) (at_place pin) here)
-                  (λ (ne : (other == place) ≡ false). elsewhere other ne here pin)
-                  (cases_Bool (other == place));
-            }),
-        ap (λ z. z.1) gave,
-      )
+      let gave : after ≡ (given, me.1) = gives old me.0.stake.notes me.1 (holds_on place old me.0.stake.notes me.1 now then notes hand takes.holds) in
+      let view : now.0 ≡ taking place old me.0 = view_is m f place old me now takes in
+      let pins : List Pin = own_pins place then.0 (m.state_of old).pins (m.state_of new).pins in
+      let first : KnowsMore me.0 now.0 = subst (KnowsMore me.0) (sym view)
+      (knows_by me.0 (taking place old me.0) (begins_itself me.0.told.seen) (omega arith) (omega arith) (omega arith) (omega arith) (omega arith) (omega arith) (λ is. is)) in
+      let last : KnowsMore then.0 given =
+      knows_by then.0 given (begins_itself then.0.told.seen) (omega arith) (omega arith) (omega arith) (omega arith) (omega arith) (omega arith) (λ is. is) in
+      record {
+        knows = subst (KnowsMore me.0) (sym (ap (λ z. z.0) gave)) (knows_further me.0 then.0 given (knows_further me.0 now.0 then.0 first on.knows) last);
+        rest = ap (λ z. but_known z.0) gave ∙ ap (noting me.0.stake.notes) (on.rest ∙ ap but_known view);
+        hand = ap (λ z. z.1) gave;
+        here = ap (λ z. pins_at place z.0) gave ∙ pins_here place pins then.0.stake.pins;
+        elsewhere = λ other ne. ap (λ z. pins_at other z.0) gave ∙ pins_else place other pins then.0.stake.pins (not_number other place ne);
+      }
     where
       given : SeatView P
       given = giving (record { place = place; part = old }) me.0.stake.notes (m.state_of old) (m.state_of new) then.0
 
-      view : now.0 ≡ taking place old me.0
-      view = view_is m f place old me now takes
-
-      knows_taken : KnowsMore me.0 now.0
-      knows_taken =
-          subst (KnowsMore me.0) (sym view)
-          (knows_by me.0 (taking place old me.0) (begins_itself me.0.told.seen) (omega arith) (omega arith) (omega arith) (omega arith) (omega arith) (omega arith) (λ is. is))
-
-      knows_giving : KnowsMore then.0 given
-      knows_giving =
-          knows_by then.0 given (begins_itself then.0.told.seen) (omega arith) (omega arith) (omega arith) (omega arith) (omega arith) (omega arith) (λ is. is)
-
+  -- of a shard with the pins that it had, its pins are the ones that it had
+  pub gave_back : Takes m f place old me now → HasGoneOn f now.0 then.0 → then.1 ≡ now.1 → Gives m place new then after
+      → (IsShardPlace f place → (m.state_of new).pins ≡ (m.state_of old).pins) → HasGoneOn f me.0 after.0 × (after.1 ≡ me.1)
+  gave_back takes on hand gives same =
+      let given : HasGiven = gave_other takes on hand gives in (
+        record {
+          knows = given.knows;
+          rest = given.rest;
+          pins = λ other here pin.
+              ⊎_elim
+              (λ (is : (other == place) ≡ true).
+              subst (λ k. IsShardPlace f k → Contains (pins_at k after.0) pin ↔ Contains (pins_at k me.0) pin) (sym (is_number other place is))
+              (at_place given pin) here)
+              (λ (ne : (other == place) ≡ false).
+              subst (λ pins. Contains pins pin ↔ Contains (pins_at other me.0) pin) (sym (given.elsewhere other ne)) (meanwhile other here pin))
+              (cases_Bool (other == place));
+        },
+        given.hand,
+      )
+    where
       -- with the part in hand the pins were as before
       meanwhile : (other : ℕ) → IsShardPlace f other → (pin : Pin) → Contains (pins_at other then.0) pin ↔ Contains (pins_at other me.0) pin
-      meanwhile other here pin = subst (λ d. Contains (pins_at other then.0) pin ↔ Contains (pins_at other d) pin) view (on.pins other here pin)
+      meanwhile other here pin =
+          subst (λ d. Contains (pins_at other then.0) pin ↔ Contains (pins_at other d) pin) (view_is m f place old me now takes) (on.pins other here pin)
 
-      elsewhere : (other : ℕ) → (other == place) ≡ false → IsShardPlace f other → (pin : Pin)
-          → Contains (pins_at other given) pin ↔ Contains (pins_at other me.0) pin
-      elsewhere other ne here pin =
-          subst (λ pins. Contains pins pin ↔ Contains (pins_at other me.0) pin)
-          (sym (pins_else place other (own_pins place then.0 (m.state_of old).pins (m.state_of new).pins) then.0.stake.pins (not_number other place ne)))
-          (meanwhile other here pin)
-
-      at_place : (pin : Pin) → IsShardPlace f place → Contains (pins_at place given) pin ↔ Contains (pins_at place me.0) pin
-      at_place pin here =
+      at_place : HasGiven → (pin : Pin) → IsShardPlace f place → Contains (pins_at place after.0) pin ↔ Contains (pins_at place me.0) pin
+      at_place given pin here =
           let shard = (told_of m f place old me now takes).shard here in
           let mine : List Pin = pins_at place then.0 in
           let held : List Pin = (m.state_of old).pins in
           let has : All (Contains held) mine = All-weaker (Contains mine) (Contains held)
           (λ p there. All-contains (Contains held) (pins_at place me.0) p shard.pins ((meanwhile place here p).0 there)) mine (All-contains_itself mine)
           in
-          let is : pins_at place given ≡ filter (is_own_or_new mine [] held) held =
-          pins_here place (own_pins place then.0 held (m.state_of new).pins) then.0.stake.pins ∙ ap (filter (is_own_or_new mine [] held)) (same here)
-          in
+          let is : pins_at place after.0 ≡ filter (is_own_or_new mine [] held) held = given.here ∙ ap (filter (is_own_or_new mine [] held)) (same here) in
           subst (λ pins. Contains pins pin ↔ Contains (pins_at place me.0) pin) (sym is)
           (both_ways (own_unchanged mine held shard.in_hand.names has pin) (meanwhile place here pin))

@@ -13,7 +13,7 @@ use Rattle.go_core.proofs.PinLaws.{has-in, has-pin}
 
 -- what passes a test is what stands in the list and passes
 module _ {A : Type 0} (test : A → Bool) where
-  passing : (xs : List A) (x : A) → Contains (filter test xs) x → Contains xs x × (test x ≡ true)
+  pub passing : (xs : List A) (x : A) → Contains (filter test xs) x → Contains xs x × (test x ≡ true)
   passing xs x there = (
     All-contains (Contains xs) (filter test xs) x (All-filter test (Contains xs) xs (All-contains_itself xs)) there,
     All-contains (λ y. test y ≡ true) (filter test xs) x (filter_passes test xs) there,
@@ -35,7 +35,7 @@ module _ {A : Type 0} (test : A → Bool) where
       (All-weaker (λ x. test x ≡ true → Contains (filter test ys) x) (λ x. test x ≡ true → Contains (filter test (y ∷ ys)) x)
       (λ x left passes. kept_later (test y) y x (filter test ys) (left passes)) ys (all_left ys))
 
-  left : (xs : List A) (x : A) → Contains xs x → test x ≡ true → Contains (filter test xs) x
+  pub left : (xs : List A) (x : A) → Contains xs x → test x ≡ true → Contains (filter test xs) x
   left xs x there = All-contains (λ y. test y ≡ true → Contains (filter test xs) y) xs x (all_left xs) there
 
 -- the pins of a shard that are a seat's, by their names, are those that it had, where the shard has all of these

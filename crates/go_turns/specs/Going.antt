@@ -1,10 +1,13 @@
 -- What a seat has after calls in which it gave back each part that it took.
 use Rattle.std.specs.Prelude.{◌≡◌, ◌↔◌, ℕ, ◌≤◌, true, false, [], Contains}
+use mathlib.Core.Option.{none}
+use Rattle.atomic_table.specs.Table.{Me, step}
 use Rattle.go_word.specs.declared.pin.Pin.{Pin}
 use Rattle.go_core.specs.Frame.{Frame}
 use Rattle.go_core.specs.Parts.{IsShardPlace}
 use Rattle.go_rule.specs.declared.view.SeatView.{SeatView}
 use Rattle.go_rule.specs.Rule.{Begins, pins_at}
+use Rattle.go_rule.specs.Steps.{LoadsFlag}
 
 module _ {P : Type 0} where
   -- what such calls leave of a seat's view: all but what it knows of the log, of the flag and of the parts; its pins are told apart
@@ -35,3 +38,12 @@ module _ {P : Type 0} where
     pub knows : KnowsMore d e
     pub rest : but_known e ≡ but_known d
     pub pins : SamePins f d e
+
+  -- and a load of the flag on the way gave this
+  pub record IsFlagged {S : Type 0} (f : Frame) (slots n : ℕ) (me now : Me S (SeatView P)) : Type 0 where
+    pub before : Me S (SeatView P)
+    pub after : Me S (SeatView P)
+    pub came : KnowsMore me.0 before.0
+    pub load : LoadsFlag (step slots 3 0 0 none) before n after
+    pub left : KnowsMore after.0 now.0
+    pub on : HasGoneOn f me.0 now.0

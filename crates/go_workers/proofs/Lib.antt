@@ -7,7 +7,6 @@ pub mod ShardsGiven
 pub mod FilesGiven
 pub mod Served
 pub mod TurnsDone
-pub mod Handed
 pub mod FileTurns
 pub mod ShardTurns
 pub mod SeatSamples

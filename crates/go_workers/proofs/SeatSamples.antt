@@ -22,8 +22,8 @@ use Rattle.go_piece.specs.declared.piece.Piece.TheVariants.{Shard, Log, Spent}
 use Rattle.go_piece.specs.Laying.{HaveOpened}
 use Rattle.go_workers.specs.declared.turn.Turn.{Turn}
 use Rattle.go_workers.specs.declared.turn.Turn.TheVariants.{Moved, Idle}
+use Rattle.go_piece.specs.Pieces.{OnShard}
 use Rattle.go_piece.specs.Meanings.{meaning_of}
-use Rattle.go_workers.specs.Bringing.{OnShard}
 use Rattle.go_workers.specs.Samples.{HasNothing, IsListable}
 use Rattle.go_workers.specs.Turns.{Archives, Flushes, Refused, Stops}
 

@@ -14,9 +14,9 @@ use Rattle.go_rule.specs.Turns.{IsTaken}
 use Rattle.go_turns.specs.Holding.{Takes, Gives}
 use Rattle.go_piece.specs.declared.piece.Piece.{Piece}
 use Rattle.go_piece.specs.declared.piece.Piece.TheVariants.{Shard, Log, Spent}
-use Rattle.go_piece.specs.Pieces.{state_in}
+use Rattle.go_piece.specs.Pieces.{state_in, OnShard}
 use Rattle.go_piece.specs.Meanings.{meaning_of}
-use Rattle.go_workers.specs.Bringing.{IsCompactedPiece, OnShard}
+use Rattle.go_workers.specs.Bringing.{IsCompactedPiece}
 use Rattle.go_workers.specs.Turns.{CompactsAt}
 
 module _ {D : Type 0} (device : Device D) (f : Frame) (slots place archived : ℕ) (me now then after : Me (Maybe (Piece D)) (SeatView (Piece D))) where

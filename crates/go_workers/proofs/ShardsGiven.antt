@@ -16,10 +16,11 @@ use Rattle.go_rule.specs.Rule.{IsBelow}
 use Rattle.go_rule.specs.Turns.{IsTaken, CanGive}
 use Rattle.go_piece.specs.declared.piece.Piece.{Piece}
 use Rattle.go_piece.specs.declared.piece.Piece.TheVariants.{Shard, Log, Spent}
+use Rattle.go_piece.specs.Pieces.{OnShard}
 use Rattle.go_piece.specs.Meanings.{meaning_of, stretch, IsShardInHand}
-use Rattle.go_piece.proofs.Unchanged.{shard_in_hand, shard_unchanged}
+use Rattle.go_piece.proofs.Unchanged.{shard_unchanged}
 use Rattle.go_piece.proofs.ShardCalls.{seen_below, shard_appended, shard_compacted}
-use Rattle.go_workers.specs.Bringing.{CanBringOn, IsBroughtOn, IsCompactedTo, OnShard}
+use Rattle.go_workers.specs.Bringing.{CanBringOn, IsBroughtOn, IsCompactedTo}
 use Rattle.go_workers.specs.Turns.{MayBringOn}
 
 -- what is behind a position of a stretch is a stretch
@@ -60,13 +61,6 @@ module _ {D : Type 0} (device : Device D) (f : Frame) (d : SeatView (Piece D)) (
       }
   can_bring from run lists (Log kept) here base taken may count few split = let at = taken.fits.0 in absurd (omega arith)
   can_bring from run lists (Spent disk front) here base taken may count few split = let at = taken.fits.0 in absurd (omega arith)
-
-  -- what a seat may tell of a shard that it took, where that lies in a piece
-  pub piece_in_hand : (piece : Piece D) → IsShardPlace f place → d.about.shards + 5 ≡ f.base → IsTaken (meaning_of device) f d place piece
-      → OnShard (IsShardInHand device d.about place) piece
-  piece_in_hand (Shard shard) here base taken = shard_in_hand device f d place shard here taken
-  piece_in_hand (Log kept) here base taken = let at = taken.fits.0 in absurd (omega arith)
-  piece_in_hand (Spent disk front) here base taken = let at = taken.fits.0 in absurd (omega arith)
 
   -- the log goes on with what a shard took in over such a run
   run_goes_on : (from : ℕ) (run : List Edge) (lists : List (List Edge)) (old : ShardState) → MayBringOn from run d → CanBringOn place from run lists old

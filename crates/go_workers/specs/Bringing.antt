@@ -17,7 +17,7 @@ use Rattle.go_shard.specs.Taking.{HasTaken}
 use Rattle.go_rule.specs.declared.view.SeatView.{SeatView}
 use Rattle.go_piece.specs.declared.piece.Piece.{Piece}
 use Rattle.go_piece.specs.declared.piece.Piece.TheVariants.{Shard, Log, Spent}
-use Rattle.go_piece.specs.Pieces.{Fits}
+use Rattle.go_piece.specs.Pieces.{Fits, OnShard}
 use Rattle.go_piece.specs.Meanings.{IsLogInHand}
 
 -- a shard was brought on to a front over these entries, of which it took its own ones; or it stood there already
@@ -67,12 +67,6 @@ is_disk (Some stops.Memory) = false
 is_disk (Some stops.Disk) = true
 
 module _ {D : Type 0} where
-  -- a piece is a shard with this
-  abbrev pub OnShard : (ShardState → Type 0) → Piece D → Type 0
-  OnShard P (Shard shard) = P shard
-  OnShard P (Log kept) = ⊥
-  OnShard P (Spent disk front) = ⊥
-
   -- a piece is the log's file, with this
   abbrev pub OnFile : (Journal D → Type 0) → Piece D → Type 0
   OnFile P (Shard shard) = ⊥

@@ -5,9 +5,9 @@ ghost use Rattle.go_core.specs.Parts.{IsShardPlace};
 ghost use Rattle.go_rule.specs.declared.view.SeatView.{SeatView};
 ghost use Rattle.go_rule.specs.Turns.{CanGive};
 ghost use Rattle.go_piece.specs.declared.piece.Piece.{Piece as APiece};
-ghost use Rattle.go_piece.specs.Pieces.{state_in};
+ghost use Rattle.go_piece.specs.Pieces.{state_in, OnShard};
 ghost use Rattle.go_piece.specs.Meanings.{meaning_of, IsShardInHand};
-ghost use Rattle.go_workers.specs.Bringing.{CanBringOn, IsBroughtOn, OnShard};
+ghost use Rattle.go_workers.specs.Bringing.{CanBringOn, IsBroughtOn};
 ghost use Rattle.go_workers.specs.Turns.{MayBringOn};
 
 use crate::counting::own_in;

@@ -1,7 +1,7 @@
 // Small rings of pieces for the tests, and what is done with them.
 ghost use Rattle.std.specs.Prelude.{◌≡◌, ◌+◌, ◌^◌, ◌<◌, ◌≤◌, IfOk, false, min, true, length};
 ghost use Rattle.go_rule.specs.Steps.{IsAt};
-ghost use Rattle.go_workers.specs.Bringing.{OnShard};
+ghost use Rattle.go_piece.specs.Pieces.{OnShard};
 ghost use Rattle.go_workers.specs.Samples.{HasNothing, IsListable, MayArchive, HasShare, Owes};
 
 use crate::{Turn, archive_turn, compact_all, flush_turn};

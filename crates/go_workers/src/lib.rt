@@ -31,6 +31,8 @@ pub use turn::Turn;
 #[cfg(test)]
 mod fixture;
 #[cfg(test)]
+mod memory_tests;
+#[cfg(test)]
 mod tests;
 #[cfg(test)]
 mod thread_tests;

@@ -56,7 +56,7 @@ pub(crate) fn entries_in_file(
 }
 
 // How often each of two neighbours stands in a list, one behind the other.
-fn are(list: &[u32], ones: usize, twos: usize) -> bool {
+pub(crate) fn are(list: &[u32], ones: usize, twos: usize) -> bool {
     list.len() == ones.saturating_add(twos)
         && list.iter().take(ones).all(|v| *v == 1)
         && list.iter().skip(ones).all(|v| *v == 2)

@@ -73,8 +73,8 @@ fn archive_all<R: Threads + Wait + Sync>(
     let mut left = u64::MAX;
     while left > 0 {
         match archive(rt, alloc, ring, &mut seat, &mut buf, &mut lists) {
-            Ok(Turn::Moved { front: ENTRIES }) | Err(_) => left = 0,
-            Ok(_) => left -= 1,
+            Ok(Turn::Moved { front: ENTRIES }) => left = 0,
+            _ => left -= 1,
         }
         thread::yield_now();
     }
@@ -99,8 +99,8 @@ fn flush_all<R: Wait>(
     let mut left = u64::MAX;
     while left > 0 {
         match flush(rt, ring, &mut seat, &mut buf) {
-            Ok(Turn::Moved { front: ENTRIES }) | Err(_) => left = 0,
-            Ok(_) => left -= 1,
+            Ok(Turn::Moved { front: ENTRIES }) => left = 0,
+            _ => left -= 1,
         }
         thread::yield_now();
     }

@@ -4,13 +4,14 @@ use Rattle.std.specs.Prelude.{Contains}
 use Rattle.go_rule.specs.Views.{frame_of}
 use Rattle.go_shard.specs.Split.{IsSplit}
 use Rattle.go_turns.proofs.Handing.{told_of, view_is}
-use Rattle.go_piece.specs.Pieces.{state_in}
+use Rattle.go_turns.proofs.Handed.{took, may_go, went, on_ok}
+use Rattle.go_piece.specs.Pieces.{state_in, OnShard}
 use Rattle.go_piece.specs.Meanings.{meaning_of, IsShardInHand}
-use Rattle.go_workers.specs.Bringing.{CanBringOn, OnShard}
+use Rattle.go_workers.specs.Bringing.{CanBringOn}
 use Rattle.go_workers.specs.Turns.{MayBringOn}
-use Rattle.go_workers.proofs.Handed.{took, may_go, went, on_ok}
 use Rattle.go_workers.proofs.Served.{may_taking, served_with}
-use Rattle.go_workers.proofs.ShardsGiven.{can_bring, piece_in_hand}
+use Rattle.go_piece.proofs.Unchanged.{piece_in_hand}
+use Rattle.go_workers.proofs.ShardsGiven.{can_bring}
 use Rattle.go_workers.proofs.archiving.bring_place_on.Goals as goal
 
 pub brought-piece-requires : goal.brought-piece-requires

@@ -2,8 +2,8 @@
 use Rattle.std.proofs.Common.{sym, subst}
 use Rattle.go_rule.specs.Turns.{CanGive}
 use Rattle.go_piece.specs.declared.piece.Piece.TheVariants.{Shard}
+use Rattle.go_piece.specs.Pieces.{OnShard}
 use Rattle.go_piece.specs.Meanings.{meaning_of, IsShardInHand}
-use Rattle.go_workers.specs.Bringing.{OnShard}
 use Rattle.go_workers.proofs.ShardsGiven.{compacted_either}
 use Rattle.go_workers.proofs.compacting.compacted.Goals as goal
 

@@ -6,12 +6,12 @@ use Rattle.go_rule.specs.Views.{frame_of}
 use Rattle.go_turns.specs.Holding.{Takes}
 use Rattle.go_turns.proofs.Going.{gone_archived}
 use Rattle.go_turns.proofs.Handing.{told_of, view_is}
-use Rattle.go_piece.specs.Pieces.{state_in}
+use Rattle.go_turns.proofs.Handed.{took, may_go, went, on_ok}
+use Rattle.go_piece.specs.Pieces.{state_in, OnShard}
 use Rattle.go_piece.specs.Meanings.{meaning_of, IsShardInHand}
-use Rattle.go_workers.specs.Bringing.{IsCompactedPiece, OnShard}
-use Rattle.go_workers.proofs.Handed.{took, may_go, went, on_ok}
+use Rattle.go_workers.specs.Bringing.{IsCompactedPiece}
 use Rattle.go_workers.proofs.Served.{turned_with}
-use Rattle.go_workers.proofs.ShardsGiven.{piece_in_hand}
+use Rattle.go_piece.proofs.Unchanged.{piece_in_hand}
 use Rattle.go_workers.proofs.ShardTurns.{cut_known, compacts_at}
 use Rattle.go_workers.proofs.compaction.compact_place.Goals as goal
 

@@ -3,12 +3,12 @@ use Rattle.std.proofs.Common.{◌+◌, length, sym, ap, ◌∙◌, arith, subst}
 use Rattle.go_rule.specs.Turns.{CanGive}
 use Rattle.go_rule.specs.Views.{frame_of}
 use Rattle.go_turns.proofs.Handing.{told_of, view_is}
+use Rattle.go_turns.proofs.Handed.{took, may_go, went}
 use Rattle.go_piece.specs.Meanings.{meaning_of}
 use Rattle.go_workers.specs.Bringing.{HasAppendedPiece, IsFileInHand}
 use Rattle.go_workers.specs.Turns.{raised_by, HasRead}
 use Rattle.go_workers.proofs.FileTurns.{hand_raised, hand_taking, read_raised, flag_raised, notes_raised, filed, stopped}
 use Rattle.go_workers.proofs.FilesGiven.{file_in_hand}
-use Rattle.go_workers.proofs.Handed.{took, may_go, went}
 use Rattle.go_workers.proofs.Served.{read_taking}
 use Rattle.go_workers.proofs.flushing.append_run.Goals as goal
 
