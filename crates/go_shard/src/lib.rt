@@ -39,7 +39,7 @@ pub use catching_up::catch_up;
 pub use compacting_all::compact_all;
 pub use fronts::FrontRange;
 pub use making::empty_shards;
-pub use reading::list_neighbours;
+pub use reading::{list_neighbours, list_pinned};
 pub use splitting::split;
 pub use store::Shard;
 

@@ -1,5 +1,6 @@
 // The pins of a shard, by which views hold compactions back.
-ghost use Rattle.std.specs.Prelude.{◌≡◌, ℕ, ◌≤◌, ◌<◌, ◌∷◌, ◌++◌, [], All, MatchResult, false, filter, if◌then◌else◌, map, not, true};
+ghost use Rattle.std.specs.Prelude.{◌≡◌, ℕ, ◌≤◌, ◌<◌, ◌∷◌, ◌++◌, [], All, Contains, MatchResult, false, filter, if◌then◌else◌, map, not, true};
+ghost use Rattle.go_word.specs.declared.edge.TheConstants.{VERTEX_LIMIT};
 ghost use Rattle.go_word.specs.Pins.{has_name, is_named};
 ghost use Rattle.go_shard.specs.ShardState.{Keeps};
 ghost use Rattle.go_shard.specs.Fronts.{IsLeast};
@@ -21,6 +22,19 @@ impl Shard {
             id += 1;
         }
         id
+    }
+
+    // The front of a pin: it is kept, and no cut has gone past it.
+    pub(crate) fn pinned_front(&self, pin: Pin) -> u64
+        requires { Contains self.now.pins pin }
+        ensures front { result ≡ pin.front }
+        ensures kept { Keeps self.now result }
+        ensures uncut { self.now.cut ≤ result }
+        ensures within { result ≤ self.now.front }
+        ensures few { self.now.vertices ≤ VERTEX_LIMIT }
+    {
+        let _pins = &self.pins;
+        pin.front
     }
 
     /// The greatest front up to which a compaction may go: one that is kept, up to a limit and to each pin.
