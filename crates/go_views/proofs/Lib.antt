@@ -1,0 +1,15 @@
+-- The lemmas on views.
+pub mod PinsBecome
+pub mod PlaceTurns
+pub mod EachTurn
+pub mod ShardHanded
+pub mod ShardsPinned
+pub mod CountsListed
+pub mod Staying
+mod Copies
+pub mod Entries
+pub mod Reading
+mod Few
+mod Gathered
+mod Taken
+pub mod SampleViews

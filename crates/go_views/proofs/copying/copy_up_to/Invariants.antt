@@ -1,0 +1,11 @@
+-- `copy_up_to`: each copy, and each look at the flag that found it down, let the seat go on.
+use Rattle.std.proofs.Common.{◌≡◌, length}
+use Rattle.go_rule.specs.Views.{frame_of}
+use Rattle.go_turns.specs.Going.{HasGoneOn}
+use Rattle.go_views.proofs.copying.copy_up_to.Given as goal
+
+abbrev pub invariant-loop : goal.invariant-loop
+invariant-loop g l =
+    (goal.iterator-loop g).can_next l.iterator' × (goal.iterator-loop g).is_finite l.iterator'
+    × (l.seat.table_id ≡ l.fn.seat.table_id) × (l.seat.id ≡ l.fn.seat.id) × (l.seat.me.1 ≡ l.fn.seat.me.1) × (length l.buf ≡ length l.fn.buf)
+    × HasGoneOn (frame_of l.ring.table.shared.key) l.fn.seat.me.0 l.seat.me.0
