@@ -148,24 +148,6 @@ pub(crate) fn taken<R: Wait>(
     take_view(rt, alloc, ring, seat, buf, floor)
 }
 
-// Releases a view; those with other names stay.
-pub(crate) fn released<R: Wait>(
-    rt: &R,
-    ring: &Ring<Piece<MemDisk>>,
-    seat: &mut Seat<Piece<MemDisk>>,
-    view: LiveView,
-)
-    requires at { IsAt ring.now.table.shared.table_id seat.old.table_id seat.old.me.0 }
-    requires shards { ring.now.shards ≡ 2 }
-    requires vertices { seat.old.me.0.about.vertices ≡ 8 }
-    requires view { IsView 2 view seat.old.me.0 }
-    ensures at { IsAt ring.now.table.shared.table_id seat.new.table_id seat.new.me.0 }
-    ensures vertices { seat.new.me.0.about.vertices ≡ 8 }
-    ensures others { (other : View) → AreApart other view → IsView 2 other seat.old.me.0 → IsView 2 other seat.new.me.0 }
-{
-    view.release(rt, ring, seat);
-}
-
 // Whether a view has these entries: by the degree and the neighbours of each vertex.
 pub(crate) fn shows<R: Wait>(
     rt: &R,

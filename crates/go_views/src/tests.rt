@@ -2,7 +2,7 @@
 ghost use Rattle.std.specs.Prelude.{◌≡◌};
 ghost use Rattle.go_rule.specs.Steps.{IsAt};
 
-use crate::fixture::{edges_to, free_name, opened, put_all, released, shows, taken};
+use crate::fixture::{edges_to, free_name, opened, put_all, shows, taken};
 use go_api::Stop;
 use go_disk::MemDisk;
 use go_piece::Piece;
@@ -28,74 +28,6 @@ fn have_pins<R: Wait>(
     let first = free_name(rt, ring, seat, 0);
     let second = free_name(rt, ring, seat, 1);
     first == count && second == count
-}
-
-#[test]
-fn a_view_stays_what_it_was(rt: HostRuntime) -> Result<(), Fail> {
-    let alloc = rt.alloc();
-    let Opened {
-        ring,
-        seat: mut writer,
-    } = opened(alloc, 32)?;
-    let mut reader = ring.split(&mut writer, 0, 1);
-    let mut buf = [0; 32];
-    let Ok(empty) = taken(&rt, alloc, &ring, &mut reader, &mut buf, 0) else {
-        return Err(Fail::new("no view"));
-    };
-    assert!(rt; put_all(&ring, &mut writer, 0, 11));
-    let Ok(first) = taken(&rt, alloc, &ring, &mut reader, &mut buf, 11) else {
-        return Err(Fail::new("no view"));
-    };
-    assert!(rt; put_all(&ring, &mut writer, 11, 30));
-    let Ok(second) = taken(&rt, alloc, &ring, &mut reader, &mut buf, 30) else {
-        return Err(Fail::new("no view"));
-    };
-    assert!(rt;
-        shows(
-            &rt,
-            alloc,
-            &ring,
-            &mut reader,
-            &second,
-            &edges_to(alloc, 30)?
-        )?
-    );
-    assert!(rt;
-        shows(
-            &rt,
-            alloc,
-            &ring,
-            &mut reader,
-            &first,
-            &edges_to(alloc, 11)?
-        )?
-    );
-    assert!(rt; shows(&rt, alloc, &ring, &mut reader, &empty, &[])?);
-    Ok(())
-}
-
-#[test]
-fn a_released_view_leaves_the_others(rt: HostRuntime) -> Result<(), Fail> {
-    let alloc = rt.alloc();
-    let Opened {
-        ring,
-        seat: mut writer,
-    } = opened(alloc, 32)?;
-    let mut reader = ring.split(&mut writer, 0, 1);
-    let mut buf = [0; 32];
-    assert!(rt; put_all(&ring, &mut writer, 0, 9));
-    let Ok(first) = taken(&rt, alloc, &ring, &mut reader, &mut buf, 9) else {
-        return Err(Fail::new("no view"));
-    };
-    assert!(rt; put_all(&ring, &mut writer, 9, 13));
-    let Ok(second) = taken(&rt, alloc, &ring, &mut reader, &mut buf, 13) else {
-        return Err(Fail::new("no view"));
-    };
-    released(&rt, &ring, &mut reader, second);
-    assert!(rt; shows(&rt, alloc, &ring, &mut reader, &first, &edges_to(alloc, 9)?)?);
-    released(&rt, &ring, &mut reader, first);
-    assert!(rt; have_pins(&rt, &ring, &mut reader, 0));
-    Ok(())
 }
 
 #[test]
