@@ -19,6 +19,7 @@ use go_word::{Edge, neighbours_of};
 use std::alloc::{AllocError, Global};
 use std::snapshot::Snapshot;
 use std::sync::Wait;
+use std::test::Fail;
 
 // How many entries the first seat of a ring may put.
 pub(crate) const QUOTA: u64 = 1000;
@@ -148,6 +149,70 @@ pub(crate) fn taken<R: Wait>(
     take_view(rt, alloc, ring, seat, buf, floor)
 }
 
+// Two views of one seat.
+pub(crate) struct Two {
+    pub first: LiveView,
+    pub second: LiveView,
+}
+
+// Puts entries up to a position, takes a view, puts more up to another, and takes a second view.
+pub(crate) fn two_taken<R: Wait>(
+    rt: &R,
+    alloc: Global,
+    ring: &Ring<Piece<MemDisk>>,
+    writer: &mut Seat<Piece<MemDisk>>,
+    reader: &mut Seat<Piece<MemDisk>>,
+    first: u64,
+    second: u64,
+) -> Result<Two, Fail>
+    requires writer_at { IsAt ring.now.table.shared.table_id writer.old.table_id writer.old.me.0 }
+    requires quota { (first ≤ second) × (second ≤ writer.old.me.0.share.quota) }
+    requires reader_at { IsAt ring.now.table.shared.table_id reader.old.table_id reader.old.me.0 }
+    requires sizes { (ring.now.shards ≡ 2) × (ring.now.slots ≡ 32) × (ring.now.table.shared.key.layout.vertices ≡ 8) }
+    requires vertices { reader.old.me.0.about.vertices ≡ 8 }
+    ensures at { IsAt ring.now.table.shared.table_id reader.new.table_id reader.new.me.0 }
+    ensures vertices { reader.new.me.0.about.vertices ≡ 8 }
+    ensures first { IfOk result (λ two. IsView 2 two.first reader.new.me.0) }
+    ensures second { IfOk result (λ two. IsView 2 two.second reader.new.me.0) }
+    ensures apart { IfOk result (λ two. AreApart two.first two.second) }
+{
+    let mut buf = [0; 32];
+    if !put_all(ring, writer, 0, first) {
+        return Err(Fail::new("not put"));
+    }
+    let Ok(one) = taken(rt, alloc, ring, reader, &mut buf, first) else {
+        return Err(Fail::new("no first view"));
+    };
+    if !put_all(ring, writer, first, second) {
+        return Err(Fail::new("not put"));
+    }
+    let Ok(other) = taken(rt, alloc, ring, reader, &mut buf, second) else {
+        return Err(Fail::new("no second view"));
+    };
+    Ok(Two {
+        first: one,
+        second: other,
+    })
+}
+
+// Releases a view; those with other names stay.
+pub(crate) fn released<R: Wait>(
+    rt: &R,
+    ring: &Ring<Piece<MemDisk>>,
+    seat: &mut Seat<Piece<MemDisk>>,
+    view: LiveView,
+)
+    requires at { IsAt ring.now.table.shared.table_id seat.old.table_id seat.old.me.0 }
+    requires shards { ring.now.shards ≡ 2 }
+    requires vertices { seat.old.me.0.about.vertices ≡ 8 }
+    requires view { IsView 2 view seat.old.me.0 }
+    ensures at { IsAt ring.now.table.shared.table_id seat.new.table_id seat.new.me.0 }
+    ensures vertices { seat.new.me.0.about.vertices ≡ 8 }
+    ensures others { (other : View) → AreApart other view → IsView 2 other seat.old.me.0 → IsView 2 other seat.new.me.0 }
+{
+    view.release(rt, ring, seat);
+}
+
 // Whether a view has these entries: by the degree and the neighbours of each vertex.
 pub(crate) fn shows<R: Wait>(
     rt: &R,
@@ -178,7 +243,7 @@ pub(crate) fn shows<R: Wait>(
 }
 
 // The least name that no pin of the shard of a place has; 0 where it has none.
-pub(crate) fn free_name<R: Wait>(
+fn free_name<R: Wait>(
     rt: &R,
     ring: &Ring<Piece<MemDisk>>,
     seat: &mut Seat<Piece<MemDisk>>,
@@ -199,4 +264,23 @@ pub(crate) fn free_name<R: Wait>(
     };
     give(ring, seat, hold);
     name
+}
+
+// Whether the least free names of both shards are this one: so many pins stand in each.
+pub(crate) fn have_pins<R: Wait>(
+    rt: &R,
+    ring: &Ring<Piece<MemDisk>>,
+    seat: &mut Seat<Piece<MemDisk>>,
+    count: u64,
+) -> bool
+    requires at { IsAt ring.now.table.shared.table_id seat.old.table_id seat.old.me.0 }
+    requires shards { ring.now.shards ≡ 2 }
+    requires vertices { seat.old.me.0.about.vertices ≡ 8 }
+    ensures at { IsAt ring.now.table.shared.table_id seat.new.table_id seat.new.me.0 }
+    ensures vertices { seat.new.me.0.about.vertices ≡ 8 }
+    ensures others { (view : View) → IsView 2 view seat.old.me.0 → IsView 2 view seat.new.me.0 }
+{
+    let first = free_name(rt, ring, seat, 0);
+    let second = free_name(rt, ring, seat, 1);
+    first == count && second == count
 }

@@ -24,4 +24,6 @@ pub use taking::take_view;
 #[cfg(test)]
 mod fixture;
 #[cfg(test)]
+mod memory_tests;
+#[cfg(test)]
 mod tests;

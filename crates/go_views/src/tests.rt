@@ -1,33 +1,62 @@
-// Views of one thread: of words that are in the ring, beside one another, and refused.
-ghost use Rattle.std.specs.Prelude.{◌≡◌};
-ghost use Rattle.go_rule.specs.Steps.{IsAt};
+// Views of one thread: of words that are in the ring, beside one another, and after a release.
 
-use crate::fixture::{edges_to, free_name, opened, put_all, shows, taken};
+use crate::fixture::{
+    Two, edges_to, have_pins, opened, put_all, released, shows, taken, two_taken,
+};
 use go_api::Stop;
-use go_disk::MemDisk;
-use go_piece::Piece;
 use go_ring::RingCalls;
-use go_rule::{Opened, Ring, Seat};
-use std::alloc::AllocError;
-use std::sync::Wait;
+use go_rule::Opened;
 use std::test::Fail;
 
-// Whether the least free names of both shards are this one: so many pins stand in each.
-fn have_pins<R: Wait>(
-    rt: &R,
-    ring: &Ring<Piece<MemDisk>>,
-    seat: &mut Seat<Piece<MemDisk>>,
-    count: u64,
-) -> bool
-    requires at { IsAt ring.now.table.shared.table_id seat.old.table_id seat.old.me.0 }
-    requires shards { ring.now.shards ≡ 2 }
-    requires vertices { seat.old.me.0.about.vertices ≡ 8 }
-    ensures at { IsAt ring.now.table.shared.table_id seat.new.table_id seat.new.me.0 }
-    ensures vertices { seat.new.me.0.about.vertices ≡ 8 }
-{
-    let first = free_name(rt, ring, seat, 0);
-    let second = free_name(rt, ring, seat, 1);
-    first == count && second == count
+#[test]
+fn a_view_stays_what_it_was(rt: HostRuntime) -> Result<(), Fail> {
+    let alloc = rt.alloc();
+    let Opened {
+        ring,
+        seat: mut writer,
+    } = opened(alloc, 32)?;
+    let mut reader = ring.split(&mut writer, 0, 1);
+    let Two { first, second } = two_taken(&rt, alloc, &ring, &mut writer, &mut reader, 11, 30)?;
+    assert!(rt;
+        shows(
+            &rt,
+            alloc,
+            &ring,
+            &mut reader,
+            &second,
+            &edges_to(alloc, 30)?
+        )?
+    );
+    assert!(rt;
+        shows(
+            &rt,
+            alloc,
+            &ring,
+            &mut reader,
+            &first,
+            &edges_to(alloc, 11)?
+        )?
+    );
+    Ok(())
+}
+
+// As the second view is gone, its names are free again.
+#[test]
+fn a_released_view_leaves_the_others(rt: HostRuntime) -> Result<(), Fail> {
+    let alloc = rt.alloc();
+    let Opened {
+        ring,
+        seat: mut writer,
+    } = opened(alloc, 32)?;
+    let mut reader = ring.split(&mut writer, 0, 1);
+    let Two { first, second } = two_taken(&rt, alloc, &ring, &mut writer, &mut reader, 9, 13)?;
+    assert!(rt; have_pins(&rt, &ring, &mut reader, 2));
+    released(&rt, &ring, &mut reader, second);
+    assert!(rt; have_pins(&rt, &ring, &mut reader, 1));
+    assert!(rt; shows(&rt, alloc, &ring, &mut reader, &first, &edges_to(alloc, 9)?)?);
+    released(&rt, &ring, &mut reader, first);
+    assert!(rt; have_pins(&rt, &ring, &mut reader, 0));
+    Ok(())
 }
 
 #[test]
@@ -50,49 +79,5 @@ fn a_raised_flag_ends_a_wait_for_the_floor(rt: HostRuntime) -> Result<(), Fail> 
         };
         assert!(rt; shows(&rt, alloc, &ring, &mut reader, &view, &edges_to(alloc, 2)?)?);
     }
-    Ok(())
-}
-
-// The second view needs memory in each shard for its pin, and for its counts, its words and its names.
-#[test]
-fn a_refused_view_leaves_the_pins_of_the_others(rt: HostRuntime) -> Result<(), Fail> {
-    let alloc = rt.alloc();
-    let Opened {
-        ring,
-        seat: mut writer,
-    } = opened(alloc, 8)?;
-    let mut reader = ring.split(&mut writer, 0, 1);
-    let mut buf = [0; 8];
-    assert!(rt; put_all(&ring, &mut writer, 0, 5));
-    let Ok(_first) = taken(&rt, alloc, &ring, &mut reader, &mut buf, 5) else {
-        return Err(Fail::from(AllocError));
-    };
-    match taken(&rt, alloc, &ring, &mut reader, &mut buf, 5) {
-        Ok(_second) => assert!(rt; have_pins(&rt, &ring, &mut reader, 2)),
-        Err(why) => {
-            assert!(rt; why == Stop::Memory);
-            assert!(rt; have_pins(&rt, &ring, &mut reader, 1));
-        }
-    }
-    Ok(())
-}
-
-#[test]
-fn the_view_is_taken_where_there_is_memory(rt: HostRuntime) -> Result<(), Fail> {
-    let alloc = rt.alloc();
-    let Opened {
-        ring,
-        seat: mut writer,
-    } = opened(alloc, 8)?;
-    let mut reader = ring.split(&mut writer, 0, 1);
-    let mut buf = [0; 8];
-    assert!(rt; put_all(&ring, &mut writer, 0, 5));
-    let Ok(_first) = taken(&rt, alloc, &ring, &mut reader, &mut buf, 5) else {
-        return Err(Fail::from(AllocError));
-    };
-    let Ok(_second) = taken(&rt, alloc, &ring, &mut reader, &mut buf, 5) else {
-        return Err(Fail::from(AllocError));
-    };
-    assert!(rt; have_pins(&rt, &ring, &mut reader, 2));
     Ok(())
 }
