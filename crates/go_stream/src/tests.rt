@@ -132,6 +132,38 @@ fn a_span_goes_on_from_the_file_into_the_ring(rt: HostRuntime) -> Result<(), Fai
     Ok(())
 }
 
+// The file has 128 entries, and the ring 70 behind them, which a ring of 70 slots is full of.
+#[test]
+fn a_span_ends_where_the_window_of_the_ring_does(rt: HostRuntime) -> Result<(), Fail> {
+    let file = file_of(rt.alloc(), 128)?;
+    for slots in [70, 128] {
+        let disk = MemDisk::new(rt.alloc(), &file, 1000)?;
+        let Begun {
+            ring,
+            mut seat,
+            front,
+        } = opened(rt.alloc(), disk, slots)?;
+        let mut reader = ring.split(&mut seat, 0, 1);
+        assert!(rt; front == 128 && put_all(&ring, &mut seat, 128, 198));
+        let mut stream = LiveStream::start(front.min(100));
+        let mut buf = vec![in rt.alloc(); 0; slots as usize]?;
+        let mut out = Vec::new(rt.alloc());
+        let span = next(
+            &rt,
+            &ring,
+            &mut reader,
+            &mut stream,
+            &mut buf,
+            200,
+            198,
+            &mut out,
+        );
+        assert!(rt; span == Ok(Span { from: 100, to: 198 }) && stream.cursor() == 198);
+        assert!(rt; out.len() == 98 && are_from(&out, 100));
+    }
+    Ok(())
+}
+
 // A reading is one call of the disk. As the ring is made over a file that is there, others are made before it.
 #[test]
 fn a_disk_that_fails_leaves_the_stream_where_it_stood(rt: HostRuntime) -> Result<(), Fail> {
