@@ -6,7 +6,7 @@ pub mod ShardHanded
 pub mod ShardsPinned
 pub mod CountsListed
 pub mod Staying
-mod Copies
+pub mod Copies
 pub mod Entries
 pub mod Reading
 mod Few

@@ -14,8 +14,9 @@ use go_rule::{Ring, Seat};
 use std::sync::Wait;
 use std::thread;
 
-// Copies the ring, again and again until the end is at or past the floor. Between two copies it looks at the flag, and lets other threads go on.
-pub(crate) fn copy_up_to<T: Part, R: Wait>(
+/// Copies the ring, again and again until the end is at or past the floor. Between two copies it looks at the flag, and lets other threads
+/// go on.
+pub fn copy_up_to<T: Part, R: Wait>(
     rt: &R,
     ring: &Ring<T>,
     seat: &mut Seat<T>,

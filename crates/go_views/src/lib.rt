@@ -18,6 +18,7 @@ mod settling;
 mod taking;
 mod turning;
 
+pub use copying::copy_up_to;
 pub use live_view::LiveView;
 pub use taking::take_view;
 
